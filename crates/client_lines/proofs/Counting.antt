@@ -46,6 +46,10 @@ pub sink_fault : {T U : Type 0} (p q : ℕ) (e : SinkError) → CountsFault {T =
 sink_fault p q sinks.Failed counts = record { later = counts.later; once = λ is. counts.once refl; never = λ no. absurd (no refl) }
 sink_fault p q sinks.Memory counts = record { later = counts.later; once = λ is. absurd (cc (is)); never = λ no. counts.never (λ is. absurd (cc (is))) }
 
+pub not_sink : (e : LineStop) → stop_by e ≡ stops.Sink → ⊥
+not_sink line_stops.Keeper is = absurd (cc (is))
+not_sink line_stops.Memory is = absurd (cc (is))
+
 pub not_keeper : (e : SinkError) → stop_of e ≡ stops.Keeper → ⊥
 not_keeper sinks.Failed is = absurd (cc (is))
 not_keeper sinks.Memory is = absurd (cc (is))

@@ -9,6 +9,7 @@ pub mod RunningEnds
 pub mod RunningInput
 pub mod RunningLeaves
 pub mod RunningLines
+pub mod RunningObjects
 pub mod RunningOpened
 pub mod RunningPeers
 pub mod RunningPieces

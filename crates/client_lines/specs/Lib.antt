@@ -9,5 +9,6 @@ pub mod Input
 pub mod InsideRun
 pub mod Laws
 pub mod Limits
+pub mod Objects
 pub mod Opening
 pub mod Run

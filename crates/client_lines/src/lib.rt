@@ -4,6 +4,7 @@
 mod beginning;
 mod input;
 mod laws;
+mod objects;
 mod opening;
 mod run;
 

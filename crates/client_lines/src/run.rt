@@ -2,7 +2,7 @@
 ghost use Rattle.std.specs.Prelude.{◌≡◌, ◌≢◌, ◌≤◌, ◌∷◌, ℕ, [], false, Ok, Err, IfOk, OnOk, OnErr, IsTrue, take};
 ghost use Rattle.outside.specs.Outside.{Adds, CountsFault, RisesWhere};
 ghost use Rattle.wire_frames.specs.Limits.{max_client};
-ghost use Rattle.client_core.specs.Keeping.{IsKeptReady};
+ghost use Rattle.program_words.specs.Status.{code};
 ghost use Rattle.shell_lang.specs.Lines.{whole_lines, last_line};
 ghost use Rattle.shell_lang.specs.Commands.{read_line};
 ghost use Rattle.client_lines.specs.Input.{last_at};
@@ -11,11 +11,12 @@ ghost use Rattle.client_lines.specs.Opening.{status_unopened};
 ghost use Rattle.client_lines.specs.Run.{status_of, is_session_status, is_quit, quits, has_quit, up_to_quit};
 ghost use Rattle.client_lines.specs.Run.{closing_line, closing_at};
 ghost use Rattle.client_lines.specs.Ending.{SessionEnds};
-ghost use Rattle.client_session.specs.Doing.{beside};
 ghost use Rattle.cmd_capture.specs.Runs.{telling};
-ghost use Rattle.client_lines.specs.InsideRun.{WentNoting, AnswersLines, HasUnfinished, TakesInput, AnswersInput, RunAnswers};
+ghost use Rattle.client_lines.specs.InsideRun.{HasUnfinished, TakesInput};
+ghost use Rattle.client_lines.specs.Objects.{objects_tell, SameObjects, KeepsClient, SessionAnswered, SessionAnsweredInput, SessionRan};
 
 use crate::input::{InputEnd, LineReader};
+use crate::objects::SessionObjects;
 use crate::opening::{Unopened, open};
 use client_core::Route;
 use client_session::{LineStop, Session};
@@ -77,19 +78,18 @@ impl From<LineStop> for Stop {
 }
 
 /// The status of a run whose input ended so, or that was stopped before.
-fn status_of(ended: Result<InputEnd, Stop>) -> u8
-    ensures status { result ≡ status_of ended }
-    ensures known { IsTrue (is_session_status result) }
+fn status_of(ended: Result<InputEnd, Stop>) -> Status
+    ensures status { code result ≡ status_of ended }
+    ensures known { IsTrue (is_session_status (code result)) }
 {
-    let status = match ended {
+    match ended {
         Ok(InputEnd::Read) => Status::Done,
         Ok(InputEnd::Failed) => Status::SourceFailed,
         Ok(InputEnd::TooLong) => Status::TooLong,
         Err(Stop::Sink) => Status::SinkFailed,
         Err(Stop::Keeper) => Status::KeeperFailed,
         Err(Stop::Memory) => Status::NoMemory,
-    };
-    status.code()
+    }
 }
 
 /// What a line asks for, or why it is refused. Want of memory is the only error.
@@ -125,197 +125,6 @@ fn text(alloc: Global, answer: Option<LineAnswer>) -> Result<Vec<u8>, AllocError
     text
 }
 
-/// Does what a line asks for, writes its answer, and says whether it quits.
-fn answer<O: Sink, K: Keeper, R: Runner, L: Link>(
-    alloc: Global,
-    route: &Route,
-    session: &mut Session,
-    line: &[u8],
-    output: &mut O,
-    keeper: &mut K,
-    runner: &mut R,
-    link: &mut L,
-) -> Result<bool, Stop>
-    requires { IsKeptReady (K.images keeper.old) route.now.image session.old.client }
-    ensures did { WentNoting route.now result (AnswersLines route.now (state_of session.old) (line.now ∷ []) (O.written output.old)
-        (O.written output.new) result (state_of session.new)) session.old session.new (K.images keeper.old)
-        (K.images keeper.new)
-        (beside (L.tells link.old) (telling (R.runs runner.old) (R.faults runner.old)))
-        (beside (L.tells link.new) (telling (R.runs runner.new) (R.faults runner.new))) }
-    ensures quit { IfOk result (λ quit. quit ≡ quits line.now) }
-    ensures kept { IfOk result (λ done. IsKeptReady (K.images keeper.new) route.now.image session.new.client) }
-    ensures later { (L.tells link.old).troubles ≤ (L.tells link.new).troubles }
-    ensures runner_later { R.faults runner.old ≤ R.faults runner.new }
-    ensures cause { CountsFault Stop.Sink (O.faults output.old) (O.faults output.new) result }
-    ensures keeper { CountsFault Stop.Keeper (K.faults keeper.old) (K.faults keeper.new) result }
-{
-    let asked = asked(alloc, line)?;
-    let quit = is_quit(&asked);
-    let answer = session.answer(alloc, route, asked, link, keeper, runner)?;
-    let text = text(alloc, answer)?;
-    write_all(output, &text)?;
-    Ok(quit)
-}
-
-/// Answers the lines that are there, up to the last line end or the first that quits, and says whether one quits.
-fn answer_lines<O: Sink, K: Keeper, R: Runner, L: Link>(
-    alloc: Global,
-    route: &Route,
-    session: &mut Session,
-    reader: &mut LineReader,
-    output: &mut O,
-    keeper: &mut K,
-    runner: &mut R,
-    link: &mut L,
-) -> Result<bool, Stop>
-    requires { IsKeptReady (K.images keeper.old) route.now.image session.old.client }
-    ensures did { WentNoting route.now result (AnswersLines route.now (state_of session.old) (up_to_quit (whole_lines reader.old.bytes))
-        (O.written output.old) (O.written output.new) result (state_of session.new)) session.old session.new (K.images keeper.old)
-        (K.images keeper.new) (beside (L.tells link.old) (telling (R.runs runner.old) (R.faults runner.old)))
-        (beside (L.tells link.new) (telling (R.runs runner.new) (R.faults runner.new))) }
-    ensures quit { IfOk result (λ quit. quit ≡ has_quit (whole_lines reader.old.bytes)) }
-    ensures left { IfOk result (λ quit. quit ≡ false → HasUnfinished reader.old reader.new) }
-    ensures kept { IfOk result (λ done. IsKeptReady (K.images keeper.new) route.now.image session.new.client) }
-    ensures later { (L.tells link.old).troubles ≤ (L.tells link.new).troubles }
-    ensures runner_later { R.faults runner.old ≤ R.faults runner.new }
-    ensures cause { CountsFault Stop.Sink (O.faults output.old) (O.faults output.new) result }
-    ensures keeper { CountsFault Stop.Keeper (K.faults keeper.old) (K.faults keeper.new) result }
-{
-    while let Some(line) = reader.first_line() {
-        let end = line.len() + 1;
-        let quit = answer(alloc, route, session, line, output, keeper, runner, link)?;
-        if quit {
-            return Ok(true);
-        }
-        reader.pass(end);
-    }
-    Ok(false)
-}
-
-/// Reads the input piece by piece up to a line that quits, and answers the lines of each piece before it reads on.
-fn answer_input<I: Source, O: Sink, K: Keeper, R: Runner, L: Link>(
-    alloc: Global,
-    route: &Route,
-    session: &mut Session,
-    input: &mut I,
-    output: &mut O,
-    keeper: &mut K,
-    runner: &mut R,
-    link: &mut L,
-) -> Result<InputEnd, Stop>
-    requires { IsKeptReady (K.images keeper.old) route.now.image session.old.client }
-    ensures did { WentNoting route.now result
-        (AnswersInput route.now (state_of session.old) (I.left input.old) (I.left input.new) (O.written output.old)
-        (O.written output.new) result (state_of session.new)) session.old session.new (K.images keeper.old)
-        (K.images keeper.new)
-        (beside (L.tells link.old) (telling (R.runs runner.old) (R.faults runner.old)))
-        (beside (L.tells link.new) (telling (R.runs runner.new) (R.faults runner.new))) }
-    ensures input { TakesInput (I.left input.old) (I.left input.new) result }
-    ensures kept { IfOk result (λ done. IsKeptReady (K.images keeper.new) route.now.image session.new.client) }
-    ensures later { (L.tells link.old).troubles ≤ (L.tells link.new).troubles }
-    ensures runner_later { R.faults runner.old ≤ R.faults runner.new }
-    ensures source { RisesWhere (result ≡ Ok InputEnd.Failed) (I.faults input.old) (I.faults input.new) }
-    ensures cause { CountsFault Stop.Sink (O.faults output.old) (O.faults output.new) result }
-    ensures keeper { CountsFault Stop.Keeper (K.faults keeper.old) (K.faults keeper.new) result }
-{
-    let mut reader = LineReader::new(alloc);
-    loop {
-        let end = reader.read_piece(input)?;
-        if let Some(InputEnd::Failed) = end {
-            return Ok(InputEnd::Failed);
-        }
-        let quit = answer_lines(
-            alloc,
-            route,
-            session,
-            &mut reader,
-            output,
-            keeper,
-            runner,
-            link,
-        )?;
-        if quit {
-            return Ok(InputEnd::Read);
-        }
-        if let Some(end) = end {
-            answer_last(
-                alloc, route, session, &reader, end, output, keeper, runner, link,
-            )?;
-            return Ok(end);
-        }
-    }
-}
-
-/// At the end of the input answers the bytes behind its last line end, where there are any.
-fn answer_last<O: Sink, K: Keeper, R: Runner, L: Link>(
-    alloc: Global,
-    route: &Route,
-    session: &mut Session,
-    reader: &LineReader,
-    end: InputEnd,
-    output: &mut O,
-    keeper: &mut K,
-    runner: &mut R,
-    link: &mut L,
-) -> Result<(), Stop>
-    requires { IsKeptReady (K.images keeper.old) route.now.image session.old.client }
-    ensures did { WentNoting route.now result
-        (AnswersLines route.now (state_of session.old) (last_at end reader.now.bytes) (O.written output.old)
-        (O.written output.new) result (state_of session.new)) session.old session.new (K.images keeper.old)
-        (K.images keeper.new)
-        (beside (L.tells link.old) (telling (R.runs runner.old) (R.faults runner.old)))
-        (beside (L.tells link.new) (telling (R.runs runner.new) (R.faults runner.new))) }
-    ensures kept { IfOk result (λ done. IsKeptReady (K.images keeper.new) route.now.image session.new.client) }
-    ensures later { (L.tells link.old).troubles ≤ (L.tells link.new).troubles }
-    ensures runner_later { R.faults runner.old ≤ R.faults runner.new }
-    ensures cause { CountsFault Stop.Sink (O.faults output.old) (O.faults output.new) result }
-    ensures keeper { CountsFault Stop.Keeper (K.faults keeper.old) (K.faults keeper.new) result }
-{
-    match end {
-        InputEnd::Read => answer_unfinished(
-            alloc,
-            route,
-            session,
-            reader.bytes(),
-            output,
-            keeper,
-            runner,
-            link,
-        ),
-        InputEnd::Failed | InputEnd::TooLong => Ok(()),
-    }
-}
-
-/// Answers a line without an end, which is none where it has no bytes.
-fn answer_unfinished<O: Sink, K: Keeper, R: Runner, L: Link>(
-    alloc: Global,
-    route: &Route,
-    session: &mut Session,
-    line: &[u8],
-    output: &mut O,
-    keeper: &mut K,
-    runner: &mut R,
-    link: &mut L,
-) -> Result<(), Stop>
-    requires { IsKeptReady (K.images keeper.old) route.now.image session.old.client }
-    ensures did { WentNoting route.now result (AnswersLines route.now (state_of session.old) (last_line line.now) (O.written output.old)
-        (O.written output.new) result (state_of session.new)) session.old session.new (K.images keeper.old)
-        (K.images keeper.new)
-        (beside (L.tells link.old) (telling (R.runs runner.old) (R.faults runner.old)))
-        (beside (L.tells link.new) (telling (R.runs runner.new) (R.faults runner.new))) }
-    ensures kept { IfOk result (λ done. IsKeptReady (K.images keeper.new) route.now.image session.new.client) }
-    ensures later { (L.tells link.old).troubles ≤ (L.tells link.new).troubles }
-    ensures runner_later { R.faults runner.old ≤ R.faults runner.new }
-    ensures cause { CountsFault Stop.Sink (O.faults output.old) (O.faults output.new) result }
-    ensures keeper { CountsFault Stop.Keeper (K.faults keeper.old) (K.faults keeper.new) result }
-{
-    if line.is_empty() {
-        return Ok(());
-    }
-    answer(alloc, route, session, line, output, keeper, runner, link)?;
-    Ok(())
-}
-
 /// Writes the line that ends the output, where the input was read to its end.
 fn close<O: Sink>(
     alloc: Global,
@@ -349,47 +158,137 @@ fn closing(alloc: Global, session: &Session) -> Result<Vec<u8>, AllocError>
     text
 }
 
-/// Answers the input of a client, and closes the output.
-fn run<I: Source, O: Sink, K: Keeper, R: Runner, L: Link>(
-    alloc: Global,
-    session: &mut Session,
-    route: &Route,
-    input: &mut I,
-    output: &mut O,
-    keeper: &mut K,
-    runner: &mut R,
-    link: &mut L,
-) -> Result<InputEnd, Stop>
-    requires { IsKeptReady (K.images keeper.old) route.now.image session.old.client }
-    ensures did { WentNoting route.now result
-        (RunAnswers route.now (state_of session.old) (I.left input.old) (I.left input.new) (O.written output.old)
-        (O.written output.new) result (state_of session.new)) session.old session.new (K.images keeper.old)
-        (K.images keeper.new)
-        (beside (L.tells link.old) (telling (R.runs runner.old) (R.faults runner.old)))
-        (beside (L.tells link.new) (telling (R.runs runner.new) (R.faults runner.new))) }
-    ensures input { TakesInput (I.left input.old) (I.left input.new) result }
-    ensures later { (L.tells link.old).troubles ≤ (L.tells link.new).troubles }
-    ensures runner_later { R.faults runner.old ≤ R.faults runner.new }
-    ensures source { RisesWhere (result ≡ Ok InputEnd.Failed) (I.faults input.old) (I.faults input.new) }
-    ensures sink { CountsFault Stop.Sink (O.faults output.old) (O.faults output.new) result }
-    ensures keeper { CountsFault Stop.Keeper (K.faults keeper.old) (K.faults keeper.new) result }
-{
-    let end = answer_input(alloc, route, session, input, output, keeper, runner, link)?;
-    close(alloc, session, end, output)?;
-    Ok(end)
+impl<O: Sink, K: Keeper, R: Runner, L: Link> SessionObjects<'_, '_, '_, '_, '_, O, K, R, L> {
+    /// Does what a line asks for, writes its answer, and says whether it quits.
+    fn answer(&mut self, session: &mut Session, line: &[u8]) -> Result<bool, Stop>
+        requires { KeepsClient (objects_tell O.Sink K.Keeper R.Runner L.Link self.old) session.old }
+        ensures did { let told = objects_tell O.Sink K.Keeper R.Runner L.Link in
+            SessionAnswered (line.now ∷ []) result session.old session.new (told self.old) (told self.new) }
+        ensures quit { IfOk result (λ quit. quit ≡ quits line.now) }
+        ensures same { SameObjects self.old self.new }
+    {
+        let asked = asked(self.alloc, line)?;
+        let quit = is_quit(&asked);
+        let answer = session.answer(
+            self.alloc,
+            self.route,
+            asked,
+            self.link,
+            self.keeper,
+            self.runner,
+        )?;
+        let text = text(self.alloc, answer)?;
+        write_all(self.output, &text)?;
+        Ok(quit)
+    }
+
+    /// Answers the lines that are there, up to the last line end or the first that quits, and says whether one quits.
+    fn answer_lines(&mut self, session: &mut Session, reader: &mut LineReader) -> Result<bool, Stop>
+        requires { KeepsClient (objects_tell O.Sink K.Keeper R.Runner L.Link self.old) session.old }
+        ensures did { let told = objects_tell O.Sink K.Keeper R.Runner L.Link in
+            SessionAnswered (up_to_quit (whole_lines reader.old.bytes)) result session.old session.new (told self.old) (told self.new) }
+        ensures quit { IfOk result (λ quit. quit ≡ has_quit (whole_lines reader.old.bytes)) }
+        ensures left { IfOk result (λ quit. quit ≡ false → HasUnfinished reader.old reader.new) }
+        ensures same { SameObjects self.old self.new }
+    {
+        while let Some(line) = reader.first_line() {
+            let end = line.len() + 1;
+            let quit = self.answer(session, line)?;
+            if quit {
+                return Ok(true);
+            }
+            reader.pass(end);
+        }
+        Ok(false)
+    }
+
+    /// Reads the input piece by piece up to a line that quits, and answers the lines of each piece before it reads on.
+    fn answer_input<I: Source>(
+        &mut self,
+        session: &mut Session,
+        input: &mut I,
+    ) -> Result<InputEnd, Stop>
+        requires { KeepsClient (objects_tell O.Sink K.Keeper R.Runner L.Link self.old) session.old }
+        ensures did { let told = objects_tell O.Sink K.Keeper R.Runner L.Link in
+            SessionAnsweredInput (I.left input.old) (I.left input.new) result session.old session.new (told self.old) (told self.new) }
+        ensures input { TakesInput (I.left input.old) (I.left input.new) result }
+        ensures source { RisesWhere (result ≡ Ok InputEnd.Failed) (I.faults input.old) (I.faults input.new) }
+        ensures same { SameObjects self.old self.new }
+    {
+        let mut reader = LineReader::new(self.alloc);
+        loop {
+            let end = reader.read_piece(input)?;
+            if let Some(InputEnd::Failed) = end {
+                return Ok(InputEnd::Failed);
+            }
+            let quit = self.answer_lines(session, &mut reader)?;
+            if quit {
+                return Ok(InputEnd::Read);
+            }
+            if let Some(end) = end {
+                self.answer_last(session, &reader, end)?;
+                return Ok(end);
+            }
+        }
+    }
+
+    /// At the end of the input answers the bytes behind its last line end, where there are any.
+    fn answer_last(
+        &mut self,
+        session: &mut Session,
+        reader: &LineReader,
+        end: InputEnd,
+    ) -> Result<(), Stop>
+        requires { KeepsClient (objects_tell O.Sink K.Keeper R.Runner L.Link self.old) session.old }
+        ensures did { let told = objects_tell O.Sink K.Keeper R.Runner L.Link in
+            SessionAnswered (last_at end reader.now.bytes) result session.old session.new (told self.old) (told self.new) }
+        ensures same { SameObjects self.old self.new }
+    {
+        match end {
+            InputEnd::Read => self.answer_unfinished(session, reader.bytes()),
+            InputEnd::Failed | InputEnd::TooLong => Ok(()),
+        }
+    }
+
+    /// Answers a line without an end, which is none where it has no bytes.
+    fn answer_unfinished(&mut self, session: &mut Session, line: &[u8]) -> Result<(), Stop>
+        requires { KeepsClient (objects_tell O.Sink K.Keeper R.Runner L.Link self.old) session.old }
+        ensures did { let told = objects_tell O.Sink K.Keeper R.Runner L.Link in
+            SessionAnswered (last_line line.now) result session.old session.new (told self.old) (told self.new) }
+        ensures same { SameObjects self.old self.new }
+    {
+        if line.is_empty() {
+            return Ok(());
+        }
+        self.answer(session, line)?;
+        Ok(())
+    }
+
+    /// Answers the input of a client, and closes the output.
+    fn run<I: Source>(&mut self, session: &mut Session, input: &mut I) -> Result<InputEnd, Stop>
+        requires { KeepsClient (objects_tell O.Sink K.Keeper R.Runner L.Link self.old) session.old }
+        ensures did { let told = objects_tell O.Sink K.Keeper R.Runner L.Link in
+            SessionRan (I.left input.old) (I.left input.new) result session.old session.new (told self.old) (told self.new) }
+        ensures input { TakesInput (I.left input.old) (I.left input.new) result }
+        ensures source { RisesWhere (result ≡ Ok InputEnd.Failed) (I.faults input.old) (I.faults input.new) }
+        ensures same { SameObjects self.old self.new }
+    {
+        let end = self.answer_input(session, input)?;
+        close(self.alloc, session, end, self.output)?;
+        Ok(end)
+    }
 }
 
 /// The status of a run that has no client to begin with.
-fn status_unopened(unopened: Unopened) -> u8
-    ensures status { result ≡ status_unopened unopened }
-    ensures known { IsTrue (is_session_status result) }
+fn status_unopened(unopened: Unopened) -> Status
+    ensures status { code result ≡ status_unopened unopened }
+    ensures known { IsTrue (is_session_status (code result)) }
 {
-    let status = match unopened {
+    match unopened {
         Unopened::Keeper => Status::KeeperFailed,
         Unopened::Image => Status::OtherImage,
         Unopened::Memory => Status::NoMemory,
-    };
-    status.code()
+    }
 }
 
 /// Runs the session of the client of this number: opens what is kept of it, reads lines, answers each before it reads on, and ships
@@ -442,19 +341,18 @@ pub fn session_run<I: Source, O: Sink, K: Keeper, R: Runner, L: Link>(
     match open(alloc, number, route.image.bytes(), keeper) {
         Ok(client) => {
             let mut session = Session::new(alloc, client);
-            let ended = run(
+            let mut objects = SessionObjects {
                 alloc,
-                &mut session,
                 route,
-                input,
                 output,
                 keeper,
                 runner,
                 link,
-            );
+            };
+            let ended = objects.run(&mut session, input);
             drop(session);
-            status_of(ended)
+            status_of(ended).code()
         }
-        Err(unopened) => status_unopened(unopened),
+        Err(unopened) => status_unopened(unopened).code(),
     }
 }
