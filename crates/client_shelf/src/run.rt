@@ -55,11 +55,10 @@ pub fn shelve<O: Sink, K: Keeper, L: Link>(
       keeper_faults = K.faults keeper.new;
     }) }
 {
-    let status = match ending_of(alloc, shelving, keeper, link) {
-        Ok(ending) => tell(alloc, ending, output),
-        Err(stop) => status_of_stop(stop),
-    };
-    status.code()
+    match ending_of(alloc, shelving, keeper, link) {
+        Ok(ending) => tell(alloc, ending, output).code(),
+        Err(stop) => status_of_stop(stop).code(),
+    }
 }
 
 /// Writes how a shelving ended, and gives the status.

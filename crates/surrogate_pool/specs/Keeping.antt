@@ -10,7 +10,8 @@ use Rattle.world_rules.proofs.Asks.{told_then, told_start}
 use Rattle.surrogate_pool.specs.declared.pool.PoolRound.{PoolRound}
 use Rattle.surrogate_pool.specs.Rounds.{is_answered, AreRounds, AddsRounds}
 
-rounds_append : (m n : List PoolRound) (first second : List Ask) → AreRounds m first → AreRounds n second → AreRounds (m ++ n) (first ++ second)
+rounds_append : (m n : List PoolRound) (first second : List Ask) → AreRounds m first → AreRounds n second
+    → AreRounds (m ++ n) (first ++ second)
 rounds_append [] n first second a b = subst (λ asks. AreRounds n (asks ++ second)) (sym a) b
 rounds_append (round ∷ m) n first second a b = (
   a.0,
