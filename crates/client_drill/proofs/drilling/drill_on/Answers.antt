@@ -18,4 +18,4 @@ pub returns-in-Err-clause-ends : goal.returns-in-Err-clause-ends
 returns-in-Err-clause-ends g c =
     let a = g.O.Sink.written c.args.output.now in
     let p = g.O.Sink.faults c.args.output.now in
-    subst (λ (status : ℕ). DrillEnds c.args.seed c.args.count status a a p p) (sym c.code.ensures) (untold c.args.seed c.args.count a p)
+    subst (λ (status : ℕ). DrillEnds c.args.seed c.args.count status a a p p) (sym c.code-in-Err.ensures) (untold c.args.seed c.args.count a p)
