@@ -12,3 +12,4 @@ pub mod Limits
 pub mod Objects
 pub mod Opening
 pub mod Run
+pub mod Telling

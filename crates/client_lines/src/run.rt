@@ -11,7 +11,7 @@ ghost use Rattle.client_lines.specs.Opening.{status_unopened};
 ghost use Rattle.client_lines.specs.Run.{status_of, is_session_status, is_quit, quits, has_quit, up_to_quit};
 ghost use Rattle.client_lines.specs.Run.{closing_line, closing_at};
 ghost use Rattle.client_lines.specs.Ending.{SessionEnds};
-ghost use Rattle.cmd_capture.specs.Runs.{telling};
+ghost use Rattle.client_lines.specs.Telling.{around_of, faults_of};
 ghost use Rattle.client_lines.specs.InsideRun.{HasUnfinished, TakesInput};
 ghost use Rattle.client_lines.specs.Objects.{objects_tell, SameObjects, KeepsClient, SessionAnswered, SessionAnsweredInput, SessionRan};
 
@@ -316,27 +316,11 @@ pub fn session_run<I: Source, O: Sink, K: Keeper, R: Runner, L: Link>(
 ) -> u8
     requires low { 1 ≤ number }
     requires high { number ≤ max_client }
-    ensures { SessionEnds number route.now result (record {
-      left = I.left input.old;
-      written = O.written output.old;
-      images = K.images keeper.old;
-      runner = telling (R.runs runner.old) (R.faults runner.old);
-      link = L.tells link.old;
-    }) (record {
-      left = I.left input.new;
-      written = O.written output.new;
-      images = K.images keeper.new;
-      runner = telling (R.runs runner.new) (R.faults runner.new);
-      link = L.tells link.new;
-    }) (record {
-      source = I.faults input.old;
-      sink = O.faults output.old;
-      keeper = K.faults keeper.old;
-    }) (record {
-      source = I.faults input.new;
-      sink = O.faults output.new;
-      keeper = K.faults keeper.new;
-    }) }
+    ensures { let around = around_of I.Source O.Sink K.Keeper R.Runner L.Link in
+        let faults = faults_of I.Source O.Sink K.Keeper in
+        SessionEnds number route.now result
+        (around input.old output.old keeper.old runner.old link.old) (around input.new output.new keeper.new runner.new link.new)
+        (faults input.old output.old keeper.old) (faults input.new output.new keeper.new) }
 {
     match open(alloc, number, route.image.bytes(), keeper) {
         Ok(client) => {

@@ -3,9 +3,9 @@ ghost use Rattle.std.specs.Prelude.{◌≡◌, ◌≤◌, Ok, IfOk, map};
 ghost use Rattle.std.specs.Option.{option_copied};
 ghost use Rattle.std.specs.String.{string_bytes};
 ghost use Rattle.wire_frames.specs.Limits.{max_client};
-ghost use Rattle.cmd_capture.specs.Runs.{telling};
 ghost use Rattle.file_paths.specs.Path.{FilePath, path_of};
 ghost use Rattle.client_lines.specs.Ending.{SessionEnds};
+ghost use Rattle.client_lines.specs.Telling.{around_of, faults_of};
 ghost use Rattle.client_proof.specs.Ending.{CheckEnds};
 ghost use Rattle.client_prog.specs.Words.{route_of};
 ghost use Rattle.client_prog.specs.Ending.{ClientEnds};
@@ -58,27 +58,11 @@ fn run_words_session<I: Source, O: Sink, K: Keeper, R: Runner, L: Link>(
 ) -> u8
     requires low { 1 ≤ words.now.client }
     requires high { words.now.client ≤ max_client }
-    ensures { SessionEnds words.now.client (route_of (run_said words.now)) result (record {
-      left = I.left input.old;
-      written = O.written output.old;
-      images = K.images keeper.old;
-      runner = telling (R.runs runner.old) (R.faults runner.old);
-      link = L.tells link.old;
-    }) (record {
-      left = I.left input.new;
-      written = O.written output.new;
-      images = K.images keeper.new;
-      runner = telling (R.runs runner.new) (R.faults runner.new);
-      link = L.tells link.new;
-    }) (record {
-      source = I.faults input.old;
-      sink = O.faults output.old;
-      keeper = K.faults keeper.old;
-    }) (record {
-      source = I.faults input.new;
-      sink = O.faults output.new;
-      keeper = K.faults keeper.new;
-    }) }
+    ensures { let around = around_of I.Source O.Sink K.Keeper R.Runner L.Link in
+        let faults = faults_of I.Source O.Sink K.Keeper in
+        SessionEnds words.now.client (route_of (run_said words.now)) result
+        (around input.old output.old keeper.old runner.old link.old) (around input.new output.new keeper.new runner.new link.new)
+        (faults input.old output.old keeper.old) (faults input.new output.new keeper.new) }
 {
     match route_of(alloc, words) {
         Ok(route) => {
@@ -130,27 +114,11 @@ pub fn client_run<I: Source, O: Sink, K: Keeper, R: Runner, L: Link>(
     runner: &mut R,
     link: &mut L,
 ) -> u8
-    ensures { ClientEnds (map string_bytes words.now) result (record {
-      left = I.left input.old;
-      written = O.written output.old;
-      images = K.images keeper.old;
-      runner = telling (R.runs runner.old) (R.faults runner.old);
-      link = L.tells link.old;
-    }) (record {
-      left = I.left input.new;
-      written = O.written output.new;
-      images = K.images keeper.new;
-      runner = telling (R.runs runner.new) (R.faults runner.new);
-      link = L.tells link.new;
-    }) (record {
-      source = I.faults input.old;
-      sink = O.faults output.old;
-      keeper = K.faults keeper.old;
-    }) (record {
-      source = I.faults input.new;
-      sink = O.faults output.new;
-      keeper = K.faults keeper.new;
-    }) }
+    ensures { let around = around_of I.Source O.Sink K.Keeper R.Runner L.Link in
+        let faults = faults_of I.Source O.Sink K.Keeper in
+        ClientEnds (map string_bytes words.now) result
+        (around input.old output.old keeper.old runner.old link.old) (around input.new output.new keeper.new runner.new link.new)
+        (faults input.old output.old keeper.old) (faults input.new output.new keeper.new) }
 {
     match form_of(words) {
         Some(Form::Run(run)) => {
