@@ -1,5 +1,6 @@
 // One connection of a port: its frame, and the answer to it.
 ghost use Rattle.std.specs.Prelude.{◌≡◌, ◌<◌, ◌+◌, List, ℕ, [], ◌∷◌, IfOk, OnErr};
+ghost use Rattle.port_serving.specs.Words.{most_connections};
 ghost use Rattle.outside.specs.Port.{PortTelling};
 ghost use Rattle.port_serving.specs.Serving.{IsAtHand, TakesConnection, Replies, tallied};
 
@@ -86,8 +87,8 @@ pub fn answer_frame<P: Port>(port: &mut P, reply: &[u8]) -> Result<Came, AllocEr
 
 /// The tally with one more take.
 pub fn tallied(tally: Tally, came: Came) -> Tally
-    requires frames { tally.frames < 65536 }
-    requires faults { tally.faults < 65536 }
+    requires frames { tally.frames < most_connections }
+    requires faults { tally.faults < most_connections }
     ensures { result ≡ tallied tally came }
 {
     let (frames, faults) = match came {

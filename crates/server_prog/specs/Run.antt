@@ -9,6 +9,9 @@ use Rattle.tree_proof.specs.Trees.{root_of, proof_of}
 use Rattle.outside.specs.Outside.{Told, Adds, Rose, RisesWhere}
 use Rattle.outside.specs.Keeper.{Images, kept_under}
 use Rattle.outside.specs.Port.{PortTelling}
+use Rattle.outside.specs.declared.port.Port.{Ghosts as PortWords}
+use Rattle.outside.specs.declared.keeper.Keeper.{Ghosts as KeeperWords}
+use Rattle.outside.specs.declared.sink.Sink.{Ghosts as SinkWords}
 use Rattle.port_serving.specs.Serving.{Connection, UsesAll, UsesFront, exchanges, frames_taken, served_line_of}
 use Rattle.program_words.specs.Status.{code}
 use Rattle.program_words.specs.declared.status.Status.TheVariants as statuses
@@ -131,6 +134,16 @@ pub record Objects : Type 0 where
   pub keeper_faults : ℕ
   pub written : Option (List ℕ)
   pub sink_faults : ℕ
+
+-- by what each of them tells of itself
+abbrev pub objects_of : {P K O : Type 0} → PortWords P → KeeperWords K → SinkWords O → P → K → O → Objects
+objects_of ports keepers sinks port keeper sink = record {
+  port = ports.tells port;
+  images = keepers.images keeper;
+  keeper_faults = keepers.faults keeper;
+  written = sinks.written sink;
+  sink_faults = sinks.faults sink;
+}
 
 -- what is told of the port, and of what is kept under a name
 abbrev pub told_of : List ℕ → Objects → ServerTelling

@@ -3,7 +3,7 @@ ghost use Rattle.std.specs.Prelude.{◌≡◌, ◌≢◌, ◌↔◌, None, Some,
 ghost use Rattle.std.specs.String.{string_bytes};
 ghost use Rattle.std.specs.Process.{exit_status};
 ghost use Rattle.program_words.specs.Pages.{page_asked};
-ghost use Rattle.server_prog.specs.Run.{is_exit, is_server_status, Ends};
+ghost use Rattle.server_prog.specs.Run.{is_exit, is_server_status, objects_of, Ends};
 ghost use Rattle.server_prog.specs.Words.{Run, form_of, run_said};
 
 use crate::reading::ReadKeeper;
@@ -221,21 +221,9 @@ pub fn served<R: Eprint, P: Port, K: Keeper + Troubled, O: Sink + Troubled>(
     keeper: &mut K,
     output: &mut O,
 ) -> ExitCode
-    ensures { Ends (map string_bytes words.now) (exit_status result)
-        (record {
-          port = P.tells port.old;
-          images = K.images keeper.old;
-          keeper_faults = K.faults keeper.old;
-          written = O.written output.old;
-          sink_faults = O.faults output.old;
-        })
-        (record {
-          port = P.tells port.new;
-          images = K.images keeper.new;
-          keeper_faults = K.faults keeper.new;
-          written = O.written output.new;
-          sink_faults = O.faults output.new;
-        }) }
+    ensures { let told = objects_of P.Port K.Keeper O.Sink in
+        Ends (map string_bytes words.now) (exit_status result) (told port.old keeper.old output.old)
+        (told port.new keeper.new output.new) }
 {
     let status = server_run(alloc, words, port, keeper, output);
     end_told(rt, words, status, keeper.trouble(), output.trouble())

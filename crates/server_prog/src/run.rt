@@ -3,12 +3,13 @@ ghost use Rattle.std.specs.Prelude.{◌≡◌, ◌≤◌, IfOk, IsErrOf, IsTrue,
 ghost use Rattle.std.specs.String.{string_bytes};
 ghost use Rattle.outside.specs.Outside.{CountsFault};
 ghost use Rattle.outside.specs.Keeper.{kept_under};
+ghost use Rattle.port_serving.specs.Words.{most_connections};
 ghost use Rattle.world_rules.specs.Served.{Served};
 ghost use Rattle.server_core.specs.Holding.{served};
 ghost use Rattle.server_core.specs.Keeping.{IsKeptForServed};
 ghost use Rattle.server_prog.specs.declared.run.Stopped.TheVariants.{Memory};
 ghost use Rattle.server_prog.specs.Serving.{server_telling};
-ghost use Rattle.server_prog.specs.Run.{server_status_of, is_server_status, Opens, OpensNone, ServerRun, OthersKept, Ends};
+ghost use Rattle.server_prog.specs.Run.{server_status_of, is_server_status, Opens, OpensNone, ServerRun, OthersKept, objects_of, Ends};
 ghost use Rattle.server_prog.specs.Inside.{stopped_by_keeper, stopped_by_sink};
 
 use crate::serving::serve;
@@ -126,7 +127,7 @@ fn run<P: Port, K: Keeper, O: Sink>(
     keeper: &mut K,
     output: &mut O,
 ) -> Result<(), Stopped>
-    requires { count ≤ 65536 }
+    requires { count ≤ most_connections }
     ensures turn { ServerRun count (server_telling (P.tells port.old) (kept_under name.now (K.images keeper.old)))
         (server_telling (P.tells port.new) (kept_under name.now (K.images keeper.new))) (O.written output.old) (O.written output.new)
         result }
@@ -152,21 +153,9 @@ pub fn server_run<P: Port, O: Sink, K: Keeper>(
     keeper: &mut K,
     output: &mut O,
 ) -> u8
-    ensures { Ends (map string_bytes words.now) result
-        (record {
-          port = P.tells port.old;
-          images = K.images keeper.old;
-          keeper_faults = K.faults keeper.old;
-          written = O.written output.old;
-          sink_faults = O.faults output.old;
-        })
-        (record {
-          port = P.tells port.new;
-          images = K.images keeper.new;
-          keeper_faults = K.faults keeper.new;
-          written = O.written output.new;
-          sink_faults = O.faults output.new;
-        }) }
+    ensures { let told = objects_of P.Port K.Keeper O.Sink in
+        Ends (map string_bytes words.now) result (told port.old keeper.old output.old)
+        (told port.new keeper.new output.new) }
 {
     match form_of(words) {
         Some(Form::Run(words)) => {

@@ -1,5 +1,6 @@
 // Serving the connections of a port, and keeping the server.
 ghost use Rattle.std.specs.Prelude.{◌≤◌, IfOk, OnErr};
+ghost use Rattle.port_serving.specs.Words.{most_connections};
 ghost use Rattle.outside.specs.Outside.{CountsFault};
 ghost use Rattle.outside.specs.Keeper.{kept_under};
 ghost use Rattle.server_core.specs.Holding.{served};
@@ -51,7 +52,7 @@ pub(crate) fn serve<P: Port, K: Keeper>(
     keeper: &mut K,
     count: u32,
 ) -> Result<Tally, KeepError>
-    requires { count ≤ 65536 }
+    requires { count ≤ most_connections }
     ensures ok { IfOk result (λ tally. ServesAll count tally (served server.old) (served server.new)
         (server_telling (P.tells port.old) (kept_under name.now (K.images keeper.old)))
         (server_telling (P.tells port.new) (kept_under name.now (K.images keeper.new)))) }

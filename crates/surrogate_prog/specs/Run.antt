@@ -3,6 +3,10 @@ use Rattle.std.specs.Prelude.{◌≡◌, ◌==◌, ◌⊎◌, ◌↔◌, ◌||�
 use Rattle.std.specs.List.{list_any}
 use Rattle.outside.specs.Outside.{Adds, Rose, RisesWhere}
 use Rattle.outside.specs.Port.{PortTelling}
+use Rattle.outside.specs.declared.port.Port.{Ghosts as PortWords}
+use Rattle.outside.specs.declared.sink.Sink.{Ghosts as SinkWords}
+use Rattle.cmd_capture.specs.declared.runner.Runner.{Ghosts as RunnerWords}
+use Rattle.world_rules.specs.declared.link.Link.{Ghosts as LinkWords}
 use Rattle.program_words.specs.Status.{code}
 use Rattle.program_words.specs.declared.status.Status.TheVariants as statuses
 use Rattle.port_serving.specs.Serving.{Connection, exchanges, frames_taken, UsesAll, UsesFront, served_line_of}
@@ -10,7 +14,7 @@ use Rattle.tree_values.specs.Tree.{Volume}
 use Rattle.surrogate_prog.specs.declared.run.Stopped.{Stopped}
 use Rattle.surrogate_prog.specs.declared.run.Stopped.TheVariants.{Sink, Memory}
 use Rattle.surrogate_prog.specs.Words.{SurrogateInvocation, surrogate_run_of, form_of}
-use Rattle.surrogate_prog.specs.Serving.{Doings, and_then, ServesFrames, BreaksServing, Outside, Did}
+use Rattle.surrogate_prog.specs.Serving.{Doings, and_then, ServesFrames, BreaksServing, Outside, Did, outside_told}
 
 -- the status of a run that ended so: with its last line, or stopped before
 abbrev pub surrogate_status_of : Result (Unit {0}) Stopped → ℕ
@@ -84,6 +88,16 @@ pub record SurrogateObjects : Type 0 where
   pub outside : Outside
   pub written : Option (List ℕ)
   pub sink_faults : ℕ
+
+-- by what each of them tells of itself
+abbrev pub surrogate_objects_of : {P R L O : Type 0} → PortWords P → RunnerWords R → LinkWords L → SinkWords O → P → R → L → O
+    → SurrogateObjects
+surrogate_objects_of ports runners links sinks port runner link sink = record {
+  port = ports.tells port;
+  outside = outside_told (runners.runs runner) (runners.faults runner) (links.tells link);
+  written = sinks.written sink;
+  sink_faults = sinks.faults sink;
+}
 
 -- What a run on these words does, by the status that it gives:
 -- 0: as many connections were used up as the words say, or none is left, and the output is the last line;

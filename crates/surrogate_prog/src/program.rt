@@ -3,8 +3,7 @@ ghost use Rattle.std.specs.Prelude.{◌≡◌, ◌≢◌, ◌↔◌, None, Some,
 ghost use Rattle.std.specs.String.{string_bytes};
 ghost use Rattle.std.specs.Process.{exit_status};
 ghost use Rattle.program_words.specs.Pages.{page_asked};
-ghost use Rattle.surrogate_prog.specs.Serving.{outside_told};
-ghost use Rattle.surrogate_prog.specs.Run.{is_surrogate_exit, SurrogateEnds};
+ghost use Rattle.surrogate_prog.specs.Run.{is_surrogate_exit, surrogate_objects_of, SurrogateEnds};
 ghost use Rattle.surrogate_prog.specs.Words.{Run, form_of, run_said};
 
 use crate::reasons::end_told;
@@ -212,19 +211,9 @@ pub fn served<E: Eprint, P: Port, L: Link, R: Runner, O: Sink + Troubled>(
     runner: &mut R,
     output: &mut O,
 ) -> ExitCode
-    ensures { SurrogateEnds (map string_bytes words.now) (exit_status result)
-        (record {
-          port = P.tells port.old;
-          outside = outside_told (R.runs runner.old) (R.faults runner.old) (L.tells link.old);
-          written = O.written output.old;
-          sink_faults = O.faults output.old;
-        })
-        (record {
-          port = P.tells port.new;
-          outside = outside_told (R.runs runner.new) (R.faults runner.new) (L.tells link.new);
-          written = O.written output.new;
-          sink_faults = O.faults output.new;
-        }) }
+    ensures { let told = surrogate_objects_of P.Port R.Runner L.Link O.Sink in
+        SurrogateEnds (map string_bytes words.now) (exit_status result) (told port.old runner.old link.old output.old)
+        (told port.new runner.new link.new output.new) }
 {
     let status = surrogate_run(alloc, words, port, link, runner, output);
     end_told(rt, status, output.trouble())

@@ -2,9 +2,11 @@
 ghost use Rattle.std.specs.Prelude.{◌≡◌, ◌≤◌, IsTrue, map};
 ghost use Rattle.std.specs.String.{string_bytes};
 ghost use Rattle.outside.specs.Outside.{CountsFault};
+ghost use Rattle.port_serving.specs.Words.{most_connections};
 ghost use Rattle.surrogate_prog.specs.Words.{run_said};
 ghost use Rattle.surrogate_prog.specs.Serving.{outside_told};
-ghost use Rattle.surrogate_prog.specs.Run.{surrogate_status_of, is_surrogate_status, surrogate_telling, SurrogateRun, SurrogateEnds};
+ghost use Rattle.surrogate_prog.specs.Run.{surrogate_status_of, is_surrogate_status, surrogate_telling, SurrogateRun};
+ghost use Rattle.surrogate_prog.specs.Run.{surrogate_objects_of, SurrogateEnds};
 ghost use Rattle.surrogate_prog.specs.Inside.{surrogate_stopped_by_sink};
 
 use crate::serving::{SurrogateRoute, serve};
@@ -69,7 +71,7 @@ fn run<P: Port, R: Runner, L: Link, O: Sink>(
     runner: &mut R,
     output: &mut O,
 ) -> Result<(), Stopped>
-    requires { words.now.count ≤ 65536 }
+    requires { words.now.count ≤ most_connections }
     ensures turn { SurrogateRun (run_said words.now)
         (surrogate_telling (P.tells port.old) (outside_told (R.runs runner.old) (R.faults runner.old) (L.tells link.old)))
         (surrogate_telling (P.tells port.new) (outside_told (R.runs runner.new) (R.faults runner.new) (L.tells link.new)))
@@ -106,19 +108,9 @@ pub fn surrogate_run<P: Port, O: Sink, R: Runner, L: Link>(
     runner: &mut R,
     output: &mut O,
 ) -> u8
-    ensures { SurrogateEnds (map string_bytes words.now) result
-        (record {
-          port = P.tells port.old;
-          outside = outside_told (R.runs runner.old) (R.faults runner.old) (L.tells link.old);
-          written = O.written output.old;
-          sink_faults = O.faults output.old;
-        })
-        (record {
-          port = P.tells port.new;
-          outside = outside_told (R.runs runner.new) (R.faults runner.new) (L.tells link.new);
-          written = O.written output.new;
-          sink_faults = O.faults output.new;
-        }) }
+    ensures { let told = surrogate_objects_of P.Port R.Runner L.Link O.Sink in
+        SurrogateEnds (map string_bytes words.now) result (told port.old runner.old link.old output.old)
+        (told port.new runner.new link.new output.new) }
 {
     match form_of(words) {
         Some(Form::Run(words)) => status_of(run(alloc, &words, port, link, runner, output)),

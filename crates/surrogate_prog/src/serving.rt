@@ -1,5 +1,6 @@
 // Serving the connections of a port as a surrogate.
 ghost use Rattle.std.specs.Prelude.{◌≡◌, ◌≤◌, IfOk, OnErr};
+ghost use Rattle.port_serving.specs.Words.{most_connections};
 ghost use Rattle.wire_frames.specs.Frame.{IsValid, frame};
 ghost use Rattle.surrogate_core.specs.Handling.{Idle};
 ghost use Rattle.surrogate_prog.specs.Serving.{outside_told};
@@ -118,7 +119,7 @@ pub(crate) fn serve<P: Port, R: Runner, L: Link>(
     link: &mut L,
 ) -> Result<Tally, AllocError>
     requires idle { surrogate.old.phase ≡ Idle }
-    requires count { count ≤ 65536 }
+    requires count { count ≤ most_connections }
     ensures ok { IfOk result (λ tally. SurrogateServesAll route.now.server.now route.now.work.now count tally surrogate.old.copy
         (P.tells port.old) (P.tells port.new) (outside_told (R.runs runner.old) (R.faults runner.old) (L.tells link.old))
         (outside_told (R.runs runner.new) (R.faults runner.new) (L.tells link.new))) }
