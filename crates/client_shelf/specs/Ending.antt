@@ -3,11 +3,14 @@ use Rattle.std.specs.Prelude.{◌≡◌, ◌==◌, ◌⊎◌, ℕ, ◌≤◌, Bo
 use Rattle.std.specs.List.{list_any}
 use Rattle.outside.specs.Outside.{Told, Adds, RisesWhere}
 use Rattle.outside.specs.Keeper.{Images}
+use Rattle.outside.specs.declared.sink.Sink.{Ghosts as SinkWords}
+use Rattle.outside.specs.declared.keeper.Keeper.{Ghosts as KeeperWords}
 use Rattle.tree_values.specs.Tree.{Volume}
 use Rattle.tree_values.specs.declared.node.Effect.{Effect}
 use Rattle.mod_log.specs.declared.log.LogError.{LogError}
 use Rattle.mod_log.specs.Log.{Log, new_log_of}
 use Rattle.world_rules.specs.declared.asking.Ask.{Ask}
+use Rattle.world_rules.specs.declared.link.Link.{Ghosts as LinkWords}
 use Rattle.world_rules.specs.Telling.{LinkTelling, ToldWorlds, HadTroubles}
 use Rattle.world_rules.specs.Settling.{failed_asks}
 use Rattle.world_rules.specs.InStep.{InStep}
@@ -28,6 +31,10 @@ use Rattle.client_shelf.specs.Texts.{ending_text}
 pub record Standing : Type 0 where
   pub images : Option Images
   pub link : LinkTelling
+
+-- by what a keeper and a link tell of themselves
+abbrev pub standing_of : {K L : Type 0} → KeeperWords K → LinkWords L → K → L → Standing
+standing_of keepers links keeper link = record { images = keepers.images keeper; link = links.tells link }
 
 -- other names have what they had, and this one what it had, or no more bytes than may be kept of a client
 abbrev pub ChangesOnly : List ℕ → Images → Images → Type 0
@@ -146,6 +153,15 @@ pub record Moment : Type 0 where
   pub stands : Standing
   pub sink_faults : ℕ
   pub keeper_faults : ℕ
+
+-- by what each of them tells of itself
+abbrev pub moment_of : {O K L : Type 0} → SinkWords O → KeeperWords K → LinkWords L → O → K → L → Moment
+moment_of sinks keepers links sink keeper link = record {
+  written = sinks.written sink;
+  stands = standing_of keepers links keeper link;
+  sink_faults = sinks.faults sink;
+  keeper_faults = keepers.faults keeper;
+}
 
 -- the statuses that a shelving may give
 abbrev pub is_shelf_status : ℕ → Bool

@@ -7,7 +7,7 @@ ghost use Rattle.tree_values.specs.Spelling.{EffectsFit};
 ghost use Rattle.client_core.specs.Keeping.{IsKept, IsReady, IsKeptReady};
 ghost use Rattle.conflict_shelf.specs.Shelf.{names_in};
 ghost use Rattle.client_shelf.specs.Shelving.{said, new_route, IsUnused, appended_all};
-ghost use Rattle.client_shelf.specs.Ending.{ChangesOnly};
+ghost use Rattle.client_shelf.specs.Ending.{ChangesOnly, standing_of};
 ghost use Rattle.client_shelf.specs.Inside.{PullsTo, LogsTo, GoesTo, KeepsAll, pulled_to};
 
 use crate::asked::Shelving;
@@ -36,13 +36,8 @@ pub(crate) fn set_aside<K: Keeper, L: Link>(
     requires kept { IsKeptReady (K.images keeper.old) asked.now.new_image.now client }
     requires fit { AllByRecursion EffectsFit shelf.entries }
     requires names { shelf.names ≡ names_in stuck.now.pending }
-    ensures did { GoesTo (said asked.now) stuck.now client.log shelf.entries result (record {
-      images = K.images keeper.old;
-      link = L.tells link.old;
-    }) (record {
-      images = K.images keeper.new;
-      link = L.tells link.new;
-    }) }
+    ensures did { GoesTo (said asked.now) stuck.now client.log shelf.entries result
+        (standing_of K.Keeper L.Link keeper.old link.old) (standing_of K.Keeper L.Link keeper.new link.new) }
     ensures others { Told (K.images keeper.old) (K.images keeper.new) (ChangesOnly asked.now.new_image.now) }
     ensures later { (L.tells link.old).troubles ≤ (L.tells link.new).troubles }
     ensures keeper { CountsFault ShelvingStop.Keeper (K.faults keeper.old) (K.faults keeper.new) result }
@@ -80,13 +75,8 @@ fn log_shelf<K: Keeper, L: Link>(
     requires unused { IsUnused client.old.log }
     requires kept { IsKeptReady (K.images keeper.old) asked.now.new_image.now client.old }
     requires fit { AllByRecursion EffectsFit lists.now }
-    ensures did { LogsTo (said asked.now) client.old.log lists.now result (record {
-      images = K.images keeper.old;
-      link = L.tells link.old;
-    }) (record {
-      images = K.images keeper.new;
-      link = L.tells link.new;
-    }) }
+    ensures did { LogsTo (said asked.now) client.old.log lists.now result
+        (standing_of K.Keeper L.Link keeper.old link.old) (standing_of K.Keeper L.Link keeper.new link.new) }
     ensures others { Told (K.images keeper.old) (K.images keeper.new) (ChangesOnly asked.now.new_image.now) }
     ensures later { (L.tells link.old).troubles ≤ (L.tells link.new).troubles }
     ensures keeper { CountsFault ShelvingStop.Keeper (K.faults keeper.old) (K.faults keeper.new) result }
@@ -109,13 +99,8 @@ fn pull_rows<K: Keeper, L: Link>(
     requires number { client.old.number ≡ asked.now.new_client }
     requires unused { IsUnused client.old.log }
     requires kept { IsKeptReady (K.images keeper.old) asked.now.new_image.now client.old }
-    ensures did { PullsTo (said asked.now) client.old.log client.new.log result (record {
-      images = K.images keeper.old;
-      link = L.tells link.old;
-    }) (record {
-      images = K.images keeper.new;
-      link = L.tells link.new;
-    }) }
+    ensures did { PullsTo (said asked.now) client.old.log client.new.log result
+        (standing_of K.Keeper L.Link keeper.old link.old) (standing_of K.Keeper L.Link keeper.new link.new) }
     ensures ready { IfOk result (λ ended. IsReady (K.images keeper.new) asked.now.new_image.now client.new) }
     ensures number { client.new.number ≡ client.old.number }
     ensures others { Told (K.images keeper.old) (K.images keeper.new) (ChangesOnly asked.now.new_image.now) }

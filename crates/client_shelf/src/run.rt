@@ -6,7 +6,7 @@ ghost use Rattle.wire_frames.specs.Limits.{max_client};
 ghost use Rattle.client_core.specs.Keeping.{IsKept};
 ghost use Rattle.client_shelf.specs.Shelving.{said, IsShelving, IsStored, IsUnused};
 ghost use Rattle.client_shelf.specs.Texts.{ending_text};
-ghost use Rattle.client_shelf.specs.Ending.{ChangesOnly, WritesEnding, ShelveEnds};
+ghost use Rattle.client_shelf.specs.Ending.{ChangesOnly, WritesEnding, standing_of, moment_of, ShelveEnds};
 ghost use Rattle.client_shelf.specs.Inside.{EndsSo};
 
 use crate::asked::Shelving;
@@ -37,23 +37,8 @@ pub fn shelve<O: Sink, K: Keeper, L: Link>(
     link: &mut L,
 ) -> u8
     requires { IsShelving (said shelving.now) }
-    ensures { ShelveEnds (said shelving.now) result (record {
-      written = O.written output.old;
-      stands = record {
-        images = K.images keeper.old;
-        link = L.tells link.old;
-      };
-      sink_faults = O.faults output.old;
-      keeper_faults = K.faults keeper.old;
-    }) (record {
-      written = O.written output.new;
-      stands = record {
-        images = K.images keeper.new;
-        link = L.tells link.new;
-      };
-      sink_faults = O.faults output.new;
-      keeper_faults = K.faults keeper.new;
-    }) }
+    ensures { ShelveEnds (said shelving.now) result (moment_of O.Sink K.Keeper L.Link output.old keeper.old link.old)
+        (moment_of O.Sink K.Keeper L.Link output.new keeper.new link.new) }
 {
     match ending_of(alloc, shelving, keeper, link) {
         Ok(ending) => tell(alloc, ending, output).code(),
@@ -95,13 +80,8 @@ fn ending_of<K: Keeper, L: Link>(
     requires high { asked.now.client ≤ max_client }
     requires new_low { 1 ≤ asked.now.new_client }
     requires new_high { asked.now.new_client ≤ max_client }
-    ensures did { EndsSo (said asked.now) result (record {
-      images = K.images keeper.old;
-      link = L.tells link.old;
-    }) (record {
-      images = K.images keeper.new;
-      link = L.tells link.new;
-    }) }
+    ensures did { EndsSo (said asked.now) result
+        (standing_of K.Keeper L.Link keeper.old link.old) (standing_of K.Keeper L.Link keeper.new link.new) }
     ensures others { Told (K.images keeper.old) (K.images keeper.new) (ChangesOnly asked.now.new_image.now) }
     ensures later { (L.tells link.old).troubles ≤ (L.tells link.new).troubles }
     ensures keeper { CountsFault ShelvingStop.Keeper (K.faults keeper.old) (K.faults keeper.new) result }
@@ -128,13 +108,8 @@ fn ending_of_log<K: Keeper, L: Link>(
     requires low { 1 ≤ asked.now.new_client }
     requires high { asked.now.new_client ≤ max_client }
     requires stuck { IsStored (K.images keeper.old) asked.now.image.now asked.now.client stuck.now }
-    ensures did { EndsSo (said asked.now) result (record {
-      images = K.images keeper.old;
-      link = L.tells link.old;
-    }) (record {
-      images = K.images keeper.new;
-      link = L.tells link.new;
-    }) }
+    ensures did { EndsSo (said asked.now) result
+        (standing_of K.Keeper L.Link keeper.old link.old) (standing_of K.Keeper L.Link keeper.new link.new) }
     ensures others { Told (K.images keeper.old) (K.images keeper.new) (ChangesOnly asked.now.new_image.now) }
     ensures later { (L.tells link.old).troubles ≤ (L.tells link.new).troubles }
     ensures keeper { CountsFault ShelvingStop.Keeper (K.faults keeper.old) (K.faults keeper.new) result }
@@ -160,13 +135,8 @@ fn ending_by_plan<K: Keeper, L: Link>(
     requires unused { IsUnused client.log }
     requires kept { IsKept (K.images keeper.old) asked.now.new_image.now client.number client.log }
     requires journal { client.journal ≡ None }
-    ensures did { EndsSo (said asked.now) result (record {
-      images = K.images keeper.old;
-      link = L.tells link.old;
-    }) (record {
-      images = K.images keeper.new;
-      link = L.tells link.new;
-    }) }
+    ensures did { EndsSo (said asked.now) result
+        (standing_of K.Keeper L.Link keeper.old link.old) (standing_of K.Keeper L.Link keeper.new link.new) }
     ensures others { Told (K.images keeper.old) (K.images keeper.new) (ChangesOnly asked.now.new_image.now) }
     ensures later { (L.tells link.old).troubles ≤ (L.tells link.new).troubles }
     ensures keeper { CountsFault ShelvingStop.Keeper (K.faults keeper.old) (K.faults keeper.new) result }
