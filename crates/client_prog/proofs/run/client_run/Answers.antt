@@ -7,7 +7,7 @@ use Rattle.client_prog.proofs.run.client_run.Goals as goal
 pub returns-in-Some-Run : goal.returns-in-Some-Run
 returns-in-Some-Run g c =
     let run = c.in-Some-Run in
-    run_ends _ _ _ _ _ _ (run_said run.run) (has_run _ run.field-0 run.run run.field-0-is run.ensures) c.run_words_session.ensures
+    run_ends _ _ _ _ _ _ (run_said run.run') (has_run _ run.field-0 run.run' run.field-0-is run.ensures) c.run_words_session.ensures
 
 pub returns-in-Some-Drill : goal.returns-in-Some-Drill
 returns-in-Some-Drill g c =
