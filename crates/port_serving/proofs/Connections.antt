@@ -10,7 +10,12 @@ use Rattle.port_serving.specs.declared.serving.Came.{Came}
 use Rattle.port_serving.specs.declared.serving.Came.TheVariants as came
 use Rattle.port_serving.specs.declared.serving.Tally.{Tally}
 use Rattle.port_serving.specs.Serving.{Connection, Missed, Unanswered, Answered, exchange, exchanges, frames_taken, talk, talks, connection_of, is_failure, failed_connections, Uses, IsAtHand, UsesAll, UsesFront, Counts, tallied}
-use Rattle.port_serving.specs.Inside.{UsesSoFar}
+
+-- connections were used up and counted, one for each take so far
+pub record UsesSoFar (made : ℕ) (tally : Tally) (connections : List Connection) (old new : PortTelling) : Type 0 where
+  pub uses : Uses connections old new
+  pub counts : Counts connections tally
+  pub takes : length connections ≡ made
 
 -- ---- connections in a row
 

@@ -1,4 +1,3 @@
 pub mod Words
 pub mod Serving
 pub mod Laws
-pub mod Inside

@@ -11,7 +11,6 @@ use Rattle.port_serving.specs.declared.serving.Taking.{Taking}
 use Rattle.port_serving.specs.declared.serving.Taking.TheVariants as taking
 use Rattle.port_serving.specs.declared.serving.Tally.{Tally}
 use Rattle.port_serving.specs.Serving.{Connection, Missed, Answered, exchanges, frames_taken, connection_of, Uses, IsAtHand, TakesConnection, Replies, tallied}
-use Rattle.port_serving.specs.Inside.{UsesSoFar}
 use Rattle.port_serving.proofs.Connections as ports
 use Rattle.store_image.specs.declared.record.ServerRecord.{ServerRecord}
 use Rattle.world_rules.specs.Served.{Served}
@@ -20,10 +19,12 @@ use Rattle.server_core.specs.Keeping.{records_taken}
 use Rattle.server_prog.specs.declared.journal.ServerJournal.{ServerJournal}
 use Rattle.server_prog.specs.declared.journal.ServerJournal.TheVariants.{Unsaved}
 use Rattle.server_prog.specs.Serving.{ServedBy, KeptAs, IsKeptAfter, PerhapsKept, first_and_records, IsRecordedAfter, ServesConnections, ServerTelling}
-use Rattle.server_prog.specs.Inside.{is_saved, Journals, Puts, KeepsOn, ServerMayKeep, IsJournalOf, ServesNext, BreaksConnection, ServesSoFar, ServesAll, ServesFront}
+use Rattle.server_prog.specs.Inside.{is_saved, Journals, Puts, KeepsOn, ServerMayKeep, ServesNext, BreaksConnection, ServesAll, ServesFront}
 use Rattle.server_prog.proofs.Appending.{still, puts_none}
 use Rattle.server_prog.proofs.Recording.{counted_none, counted_frames, recorded}
 use Rattle.server_prog.proofs.Kept.{Kept, kept_same, told_then, told_with, or_false, change-append, kept_more, perhaps_more, kept_one, perhaps_one}
+use Rattle.port_serving.proofs.Connections.{UsesSoFar}
+use Rattle.server_prog.proofs.SoFar.{IsJournalOf, ServesSoFar}
 
 -- ---- replies in a row
 

@@ -9,3 +9,4 @@ pub mod Running
 pub mod Texts
 pub mod Totals
 pub mod KeptAtEnd
+pub mod SoFar

@@ -20,8 +20,9 @@ use Rattle.server_core.proofs.Records.{any_is_noted}
 use Rattle.server_prog.specs.declared.journal.ServerJournal.{ServerJournal}
 use Rattle.server_prog.specs.declared.journal.ServerJournal.TheVariants.{Unsaved, Saved}
 use Rattle.server_prog.specs.Serving.{first_and_records, IsKeptWith, IsRecordedAfter}
-use Rattle.server_prog.specs.Inside.{PutsRecord, Puts, IsJournalOf}
+use Rattle.server_prog.specs.Inside.{PutsRecord, Puts}
 use Rattle.server_prog.proofs.Kept.{Kept, told_then, told_with}
+use Rattle.server_prog.proofs.SoFar.{IsJournalOf}
 
 -- what was left first, and the records behind it
 abbrev First : Type 0

@@ -10,10 +10,9 @@ use Rattle.port_serving.specs.declared.serving.Came.{Came}
 use Rattle.port_serving.specs.declared.serving.Came.TheVariants as came
 use Rattle.port_serving.specs.declared.serving.Tally.{Tally}
 use Rattle.port_serving.specs.Serving.{Connection, connection_of, exchanges, frames_taken, Uses, IsAtHand, UsesAll, UsesFront, Counts}
-use Rattle.port_serving.specs.Inside.{UsesSoFar}
 use Rattle.store_image.specs.declared.image.TheConstants.{MAX_SERVER_IMAGE, MAX_RECORDS}
 use Rattle.store_image.specs.declared.record.ServerRecord.{ServerRecord}
-use Rattle.store_image.specs.Records.{server_record, server_records}
+use Rattle.store_image.specs.Records.{server_record}
 use Rattle.outside.specs.Keeper.{followed_by}
 use Rattle.world_rules.specs.Served.{Served}
 use Rattle.server_core.specs.Framing.{change}
@@ -22,7 +21,7 @@ use Rattle.server_prog.specs.declared.journal.ServerJournal.{ServerJournal}
 use Rattle.server_prog.specs.declared.journal.ServerJournal.TheVariants as journals
 use Rattle.server_prog.specs.declared.run.Stopped.{Stopped}
 use Rattle.server_prog.specs.declared.run.Stopped.TheVariants as stops
-use Rattle.server_prog.specs.Serving.{KeptAs, IsKeptAfter, PerhapsKept, IsImageWithRecords, first_and_records, IsRecordedAfter}
+use Rattle.server_prog.specs.Serving.{KeptAs, IsKeptAfter, PerhapsKept, IsImageWithRecords, IsRecordedAfter}
 use Rattle.server_prog.specs.Serving.{ServedBy, ServesConnections, ServerTelling}
 
 -- ---- what this run has kept
@@ -68,14 +67,6 @@ pub record KeepsOn (note : Option ServerRecord) (journal next : ServerJournal) (
   pub kept : Told old new (KeptAs (is_some note) after)
   pub puts : Told old new (Puts note journal next after)
 
--- the journal of frames, of which this is the state after the first that changed it, with the records of the later ones: nothing was
--- saved where none did; else it counts the bytes of the records behind an image for that state, where a run appends so many
-abbrev pub IsJournalOf : ServerJournal → Option (Served × List ServerRecord) → Option (List ℕ) → Option (List ℕ) → Type 0
-IsJournalOf journal None old new = (journal ≡ journals.Unsaved) × (new ≡ old)
-IsJournalOf journal (Some first) old new =
-    length (server_records first.1) ≤ MAX_RECORDS
-    → (journal ≡ journals.Saved (length (server_records first.1))) × IsImageWithRecords first.0 first.1 new
-
 -- its keeping was refused: what is kept has the change or not
 abbrev pub ServerMayKeep : Bool → ServerJournal → Served → Served → Option (Option (List ℕ)) → Option (Option (List ℕ)) → Type 0
 ServerMayKeep changed journal before after old new = Told old new (λ o n. KeptAs (is_saved journal) before o n ⊎ KeptAs changed after o n)
@@ -100,15 +91,6 @@ pub record BreaksConnection (journal : ServerJournal) (before : Served) (old new
   pub frames : List (List ℕ)
   pub at_hand : IsAtHand frames old.port new.port
   pub kept : Told old.kept new.kept (λ o n. KeptAs (is_saved journal) before o n ⊎ IsKeptAfter frames before o n)
-
--- connections were served and counted, one for each take so far
-pub record ServesSoFar (made : ℕ) (tally : Tally) (journal : ServerJournal) (before after : Served) (old new : ServerTelling) : Type 0 where
-  pub connections : List Connection
-  pub port : UsesSoFar made tally connections old.port new.port
-  pub serves : ServesConnections connections before after old.kept new.kept
-  pub journals : Journals journal after new.kept
-  pub saved : is_saved journal ≡ change (frames_taken connections) before
-  pub counted : Told old.kept new.kept (IsJournalOf journal (first_and_records (frames_taken connections) before))
 
 -- at the end of the takes, or of the connections
 pub record ServesAll (count : ℕ) (tally : Tally) (before after : Served) (old new : ServerTelling) : Type 0 where

@@ -8,14 +8,15 @@ use Rattle.port_serving.specs.declared.serving.Came.{Came}
 use Rattle.port_serving.specs.declared.serving.Came.TheVariants as came
 use Rattle.port_serving.specs.declared.serving.Tally.{Tally}
 use Rattle.port_serving.specs.Serving.{Connection, Missed, exchanges, frames_taken, connection_of, Uses, IsAtHand, Replies, tallied}
-use Rattle.port_serving.specs.Inside.{UsesSoFar}
 use Rattle.port_serving.proofs.Connections as ports
 use Rattle.tree_values.specs.Tree.{Volume}
 use Rattle.cmd_capture.specs.declared.runner.Run.{Run}
 use Rattle.world_rules.specs.declared.asking.Ask.{Ask}
 use Rattle.surrogate_prog.specs.Serving.{Doings, did_nothing, and_then, ServesFrame, ServesFrames, Outside, Did}
-use Rattle.surrogate_prog.specs.Inside.{RepliesTo, BreaksReply, SurrogateServesNext, BreaksTaking, SurrogateServesSoFar, SurrogateServesAll, SurrogateServesFront}
+use Rattle.surrogate_prog.specs.Inside.{RepliesTo, BreaksReply, SurrogateServesNext, BreaksTaking, SurrogateServesAll, SurrogateServesFront}
 use Rattle.surrogate_prog.proofs.Doing.{nothing_done, did_more, unanswered}
+use Rattle.port_serving.proofs.Connections.{UsesSoFar}
+use Rattle.surrogate_prog.proofs.SoFar.{SurrogateServesSoFar}
 
 -- ---- doings in a row
 

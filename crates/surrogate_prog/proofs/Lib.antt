@@ -6,3 +6,4 @@ mod Alone
 mod Silent
 mod Unrun
 mod Routes
+pub mod SoFar

@@ -8,7 +8,6 @@ use Rattle.port_serving.specs.declared.serving.Came.{Came}
 use Rattle.port_serving.specs.declared.serving.Came.TheVariants as came
 use Rattle.port_serving.specs.declared.serving.Tally.{Tally}
 use Rattle.port_serving.specs.Serving.{Connection, connection_of, exchanges, frames_taken, Uses, IsAtHand, UsesAll, UsesFront, Counts}
-use Rattle.port_serving.specs.Inside.{UsesSoFar}
 use Rattle.tree_values.specs.Tree.{Volume}
 use Rattle.wire_frames.specs.declared.message.Message.{Message}
 use Rattle.wire_frames.specs.Frame.{frame}
@@ -60,15 +59,6 @@ pub record BreaksTaking (server work : List ℕ) (before : Volume) (port used : 
   pub did : Doings
   pub breaks : BreaksServing server work before frames did
   pub did_outside : Did frames did old new
-
--- connections were served and counted, one for each take so far
-pub record SurrogateServesSoFar (server work : List ℕ) (made : ℕ) (tally : Tally) (before after : Volume) (port used : PortTelling)
-    (old new : Outside) : Type 0 where
-  pub connections : List Connection
-  pub uses : UsesSoFar made tally connections port used
-  pub did : Doings
-  pub serves : ServesFrames server work before (exchanges connections) did after
-  pub did_outside : Did (frames_taken connections) did old new
 
 -- at the end of the takes, or of the connections
 pub record SurrogateServesAll (server work : List ℕ) (count : ℕ) (tally : Tally) (before : Volume) (port used : PortTelling)

@@ -2,9 +2,9 @@ use Rattle.std.proofs.Common.{◌≡◌}
 use Rattle.outside.specs.Keeper.{kept_under}
 use Rattle.server_core.specs.Holding.{served}
 use Rattle.server_prog.specs.Serving.{server_telling}
-use Rattle.server_prog.specs.Inside.{ServesSoFar}
 use Rattle.server_prog.specs.Run.{OthersKept}
 use Rattle.server_prog.proofs.serving.serve.Given as goal
+use Rattle.server_prog.proofs.SoFar.{ServesSoFar}
 
 abbrev pub invariant-loop-take : goal.invariant-loop-take
 invariant-loop-take g l = record {

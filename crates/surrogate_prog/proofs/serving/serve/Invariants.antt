@@ -1,8 +1,8 @@
 use Rattle.std.proofs.Common.{◌≡◌}
 use Rattle.surrogate_core.specs.Handling.{Idle}
 use Rattle.surrogate_prog.specs.Serving.{outside_told}
-use Rattle.surrogate_prog.specs.Inside.{SurrogateServesSoFar}
 use Rattle.surrogate_prog.proofs.serving.serve.Given as goal
+use Rattle.surrogate_prog.proofs.SoFar.{SurrogateServesSoFar}
 
 abbrev pub invariant-loop-take : goal.invariant-loop-take
 invariant-loop-take g l = record {
