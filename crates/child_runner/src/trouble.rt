@@ -33,12 +33,22 @@ pub(crate) enum RunTrouble {
 }
 
 impl From<AllocError> for RunTrouble {
+    ghost use Rattle.std.specs.Prelude.{◌≡◌};
+    ghost use Rattle.child_runner.specs.declared.trouble.RunTrouble.TheVariants.{Memory};
+
+    ghost from_gives = { λ _ trouble. trouble ≡ Memory };
+
     fn from(_: AllocError) -> RunTrouble {
         RunTrouble::Memory
     }
 }
 
 impl<T: Drop> From<AllocFailed<T>> for RunTrouble {
+    ghost use Rattle.std.specs.Prelude.{◌≡◌};
+    ghost use Rattle.child_runner.specs.declared.trouble.RunTrouble.TheVariants.{Memory};
+
+    ghost from_gives = { λ _ trouble. trouble ≡ Memory };
+
     fn from(_: AllocFailed<T>) -> RunTrouble {
         RunTrouble::Memory
     }

@@ -6,7 +6,7 @@ ghost use Rattle.wire_frames.specs.Limits.{max_client};
 ghost use Rattle.file_paths.specs.Path.{FilePath, path_of};
 ghost use Rattle.client_lines.specs.Ending.{SessionEnds};
 ghost use Rattle.client_lines.specs.Telling.{around_of, faults_of};
-ghost use Rattle.client_proof.specs.Ending.{CheckEnds};
+ghost use Rattle.client_proof.specs.Ending.{stream_faults_of, CheckEnds};
 ghost use Rattle.client_prog.specs.Words.{route_of};
 ghost use Rattle.client_prog.specs.Ending.{ClientEnds};
 ghost use Rattle.client_prog.specs.Inside.{run_said};
@@ -82,16 +82,9 @@ fn check_by_words<I: Source, O: Sink>(
     input: &mut I,
     output: &mut O,
 ) -> u8
-    ensures { (path : FilePath) → path_of words.now.path.now ≡ Ok path
+    ensures { let faults = stream_faults_of I.Source O.Sink in (path : FilePath) → path_of words.now.path.now ≡ Ok path
         → CheckEnds words.now.root path result (I.left input.old) (I.left input.new) (O.written output.old) (O.written output.new)
-        (record {
-          source = I.faults input.old;
-          sink = O.faults output.old;
-        })
-        (record {
-          source = I.faults input.new;
-          sink = O.faults output.new;
-        }) }
+        (faults input.old output.old) (faults input.new output.new) }
 {
     match Path::read(alloc, words.path) {
         Ok(path) => {

@@ -3,6 +3,8 @@ use Rattle.std.specs.Prelude.{◌≡◌, ◌==◌, ◌⊎◌, ◌↔◌, ℕ, �
 use Rattle.std.specs.Prelude.{Result, Ok, Err}
 use Rattle.std.specs.List.{list_any}
 use Rattle.outside.specs.Outside.{Takes, Adds, RisesWhere, Rose}
+use Rattle.outside.specs.declared.source.Source.{Ghosts as SourceWords}
+use Rattle.outside.specs.declared.sink.Sink.{Ghosts as SinkWords}
 use Rattle.file_paths.specs.Path.{FilePath}
 use Rattle.tree_proof.specs.Tops.{Digest}
 use Rattle.tree_proof.specs.Checking.{checked}
@@ -16,6 +18,10 @@ use Rattle.client_proof.specs.Texts.{answer_line}
 pub record StreamFaults : Type 0 where
   pub source : ℕ
   pub sink : ℕ
+
+-- by what each of them tells of itself
+abbrev pub stream_faults_of : {I O : Type 0} → SourceWords I → SinkWords O → I → O → StreamFaults
+stream_faults_of sources sinks source sink = record { source = sources.faults source; sink = sinks.faults sink }
 
 -- the statuses that a check may end with
 abbrev pub is_check_status : ℕ → Bool

@@ -3,7 +3,7 @@ ghost use Rattle.std.specs.Prelude.{◌≡◌, IfOk, OnErr};
 ghost use Rattle.outside.specs.Outside.{CountsFault, RisesWhere};
 ghost use Rattle.program_words.specs.Status.{code};
 ghost use Rattle.tree_proof.specs.Checking.{checked};
-ghost use Rattle.client_proof.specs.Ending.{answer_status, WritesAnswer, BreaksAnswer, CheckEnds};
+ghost use Rattle.client_proof.specs.Ending.{answer_status, WritesAnswer, BreaksAnswer, stream_faults_of, CheckEnds};
 ghost use Rattle.client_proof.specs.Inside.{TellsFinding};
 
 use crate::reading::read_all;
@@ -33,15 +33,9 @@ pub fn check_run<I: Source, O: Sink>(
     input: &mut I,
     output: &mut O,
 ) -> u8
-    ensures { CheckEnds root.now path.now result (I.left input.old) (I.left input.new) (O.written output.old) (O.written output.new)
-        (record {
-          source = I.faults input.old;
-          sink = O.faults output.old;
-        })
-        (record {
-          source = I.faults input.new;
-          sink = O.faults output.new;
-        }) }
+    ensures { let faults = stream_faults_of I.Source O.Sink in
+        CheckEnds root.now path.now result (I.left input.old) (I.left input.new) (O.written output.old) (O.written output.new)
+        (faults input.old output.old) (faults input.new output.new) }
 {
     let mut certificate = Vec::new(alloc);
     let status = match read_all(input, &mut certificate) {
