@@ -21,8 +21,8 @@ NewNetworksAreInStep = (client : ℕ) (opening : Served)
     → 1 ≤ client → client ≤ CLIENTS → IsServed opening → opening.last client ≡ 0
     → InStep client new_log (new_world client opening)
 
--- An ask of a network whose first fate is a stop fails, and counts a trouble. It is noted as sent and failed, and nothing else changes: the
--- stop stays, and neither server nor surrogate nor runner does anything.
+-- Unless memory runs out, an ask of a network whose first fate is a stop fails, and counts a trouble. It is noted as sent and failed, and
+-- nothing else changes: the stop stays, and neither server nor surrogate nor runner does anything.
 abbrev pub StopsStay : Type 0
 StopsStay = (to : Peer) (address : List ℕ) (request : Message) (old new : Scene) (result : Result (Vec ℕ Global) LinkError)
     → is_stopped old.fates ≡ true → IsMet to address request old new result → result ≢ Err LinkMemory

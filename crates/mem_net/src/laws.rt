@@ -12,7 +12,7 @@ pub fn few_asks_fail_in_a_row()
     ensures { FewAsksFailInARow }
 {}
 
-/// Law: an ask that meets a stop fails, changes nothing but what was sent and the count of troubles, and leaves the stop where it is.
+/// Law: an ask that meets a stop fails, unless memory runs out, is noted and counted as a trouble, and leaves all else as it is.
 pub fn stops_stay()
     ensures { StopsStay }
 {}
