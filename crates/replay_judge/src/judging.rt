@@ -56,13 +56,7 @@ fn under_client_names(
     ensures legal { IfOk result AreJobRows }
 {
     have_paths(sketched.effects.as_slice());
-    let renaming = renaming(
-        alloc,
-        &sketched.origin.command.templates,
-        &sketched.effects,
-        &job.rows,
-        &rows,
-    )?;
+    let renaming = renaming(alloc, sketched, job, &rows)?;
     let renamed = rename(alloc, rows, &renaming)?;
     Ok(renamed)
 }

@@ -52,6 +52,8 @@ images_small = record {
       kept_size (client_in kept.format first) (client_records kept.whole.notes) kept.front kept.tail bytes MAX_CLIENT_IMAGE kept.whole.spelled kept.parts (client_size first kept.whole.fits.fits) few;
   kept_servers = λ image bytes kept few.
       kept_size (server_in kept.format kept.whole.first) (server_records kept.whole.notes) kept.front kept.tail bytes MAX_SERVER_IMAGE kept.whole.spelled kept.parts (server_size kept.whole.first kept.whole.fits.fits) few;
+  client_images_are = refl;
+  server_images_are = refl;
   records_are = refl;
   loaded_are = refl;
   clients_loaded = omega arith;

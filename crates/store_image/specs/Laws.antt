@@ -8,7 +8,7 @@ use Rattle.store_image.specs.declared.image.ImageError.TheVariants.{BadImage}
 use Rattle.store_image.specs.declared.image.TheConstants.{MAX_CLIENT_IMAGE, MAX_SERVER_IMAGE, MAX_RECORDS, MAX_LOADED}
 use Rattle.store_image.specs.declared.record.ClientRecord.{ClientRecord}
 use Rattle.store_image.specs.declared.record.ServerRecord.{ServerRecord}
-use Rattle.store_image.specs.Limits.{max_records, max_loaded}
+use Rattle.store_image.specs.Limits.{max_client_image, max_server_image, max_records, max_loaded}
 use Rattle.store_image.specs.Spelling.{client, ClientFits, server, ServerFits}
 use Rattle.store_image.specs.Fields.{client_fields, server_fields}
 use Rattle.store_image.specs.Records.{IsSpelled, client_record, client_records, with_record, with_records, IsNoteOf, AreNotes}
@@ -53,6 +53,8 @@ pub record ImagesAreSmall : Type 0 where
       → length (client_records kept.whole.notes ++ kept.tail) ≤ MAX_RECORDS → length bytes ≤ MAX_CLIENT_IMAGE + MAX_RECORDS
   pub kept_servers : (image : ServerImage) (bytes : List ℕ) (kept : IsKeptForServer image bytes)
       → length (server_records kept.whole.notes ++ kept.tail) ≤ MAX_RECORDS → length bytes ≤ MAX_SERVER_IMAGE + MAX_RECORDS
+  pub client_images_are : MAX_CLIENT_IMAGE ≡ max_client_image
+  pub server_images_are : MAX_SERVER_IMAGE ≡ max_server_image
   pub records_are : MAX_RECORDS ≡ max_records
   pub loaded_are : MAX_LOADED ≡ max_loaded
   pub clients_loaded : MAX_CLIENT_IMAGE + MAX_RECORDS < MAX_LOADED

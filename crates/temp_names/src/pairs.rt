@@ -12,8 +12,8 @@ ghost use Rattle.temp_names.specs.declared.candidate.Likeness.TheVariants.{Group
 
 use crate::candidate::{Candidate, Likeness, client_candidates, push_found, replay_candidates};
 use crate::classes::{alike, candidates_at, sorted_by_class, sorted_by_path, sorted_rows};
-use cmd_capture::{JobRow, JobRows, Template, Templates};
-use mod_log::{SketchEffect, SketchEffects};
+use cmd_capture::{Job, JobRow, JobRows, Template, Templates};
+use mod_log::{SketchEffect, SketchEffects, SketchEntry};
 use std::alloc::{AllocError, Global};
 use vol_tree::{Path, TryCopy};
 
@@ -282,9 +282,28 @@ fn pairs_of(
     Ok(found)
 }
 
-/// Which new files of the replay get which paths of the client, in the order of these. `rows` is what
+/// Which new files of the replay of an entry's command get which paths of the client, in the order of these. `rows` is what
 /// the replay left of the rows of the job.
 pub fn renaming(
+    alloc: Global,
+    entry: &SketchEntry,
+    job: &Job,
+    rows: &JobRows,
+) -> Result<Vec<Renamed>, AllocError>
+    ensures { IfOk result
+        (λ found. found.items ≡ rules.renaming entry.now.origin.command.templates entry.now.effects job.now.rows rows.now) }
+{
+    renaming_of(
+        alloc,
+        &entry.origin.command.templates,
+        &entry.effects,
+        &job.rows,
+        rows,
+    )
+}
+
+/// The same of the parts that decide it: the command's templates, the entry's effects and the job's rows.
+pub fn renaming_of(
     alloc: Global,
     templates: &Templates,
     effects: &SketchEffects,

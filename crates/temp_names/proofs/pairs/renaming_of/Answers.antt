@@ -1,4 +1,4 @@
-use Rattle.temp_names.proofs.pairs.renaming.Goals as goal
+use Rattle.temp_names.proofs.pairs.renaming_of.Goals as goal
 
 pub returns : goal.returns
 returns c =
