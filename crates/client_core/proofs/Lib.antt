@@ -14,6 +14,7 @@ pub mod Runs
 pub mod Ships
 pub mod Sketching
 pub mod Standing
+pub mod Staying
 pub mod Syncs
 pub mod Truths
 pub mod Windows

@@ -11,7 +11,6 @@ use Rattle.vol_tree.proofs.Behind.{IsIn-left, IsIn-right}
 use Rattle.mod_log.specs.declared.log.Entry.{Entry}
 use Rattle.mod_log.specs.declared.sketching.SketchEntry.{SketchEntry}
 use Rattle.mod_log.specs.Log.{Log, IsLog, AreEntriesOf}
-use Rattle.mod_log.proofs.Entries.{acknowledged_is_log}
 use Rattle.mod_log.proofs.Sketches.{one_sketch_of}
 use Rattle.wire_frames.specs.declared.message.Message.{Message}
 use Rattle.wire_frames.specs.declared.message.Message.TheVariants.{Operate, Accepted, Stale, Unfit, Gap, Full, Done, Declined}
@@ -32,7 +31,7 @@ use Rattle.client_core.specs.declared.syncing.SyncEnd.TheVariants.{Unanswered}
 use Rattle.client_core.specs.Trace.{Trace, nothing, followed, asking, changing}
 use Rattle.client_core.specs.Syncing.{store_of, IsFirst, taken_upto, log_behind, end_by, IsLight, IsHeavy, IsNotDone, StoreIsDue, IsWindow, Ships, BreaksShipping, EntryTurn, Acknowledges, acknowledging, EndsSync, BreaksTurn, SyncEnds}
 use Rattle.client_core.specs.Licence.{WasNotDone, Carries, MayBeAsked, AreLicensed, SyncsAreLicensed, DoneEntriesCostOperations, UnansweredStoresFailed}
-use Rattle.client_core.proofs.Firsts.{first_in, first_number, first_pending}
+use Rattle.client_core.proofs.Firsts.{first_in, first_pending}
 use Rattle.client_core.proofs.Ships.{ships_reply, told_upto, goes_on}
 
 -- ---- the asks of a last turn
@@ -47,10 +46,10 @@ last_asks before after asks = ap (λ (more : List Ask). asks ++ more) (none_ackn
 -- ---- what a settling asks
 
 -- each of the asks is of this request
-abbrev AllOf : Message → List Ask → Type 0
+abbrev pub AllOf : Message → List Ask → Type 0
 AllOf request asks = (ask : Ask) → IsIn ask asks → ask.request ≡ request
 
-both_of : (request : Message) (xs ys : List Ask) → AllOf request xs → AllOf request ys → AllOf request (xs ++ ys)
+pub both_of : (request : Message) (xs ys : List Ask) → AllOf request xs → AllOf request ys → AllOf request (xs ++ ys)
 both_of request xs ys first second ask among = ⊎_elim (λ (here : IsIn ask xs). first ask here) (λ (there : IsIn ask ys). second ask there) (in_either ask xs ys among)
 
 module _ (to : Peer) (address : List ℕ) (request : Message) where
@@ -63,12 +62,12 @@ module _ (to : Peer) (address : List ℕ) (request : Message) where
   failures_of (suc n) ask (inl is) = ap (λ (a : Ask). a.request) is
   failures_of (suc n) ask (inr among) = failures_of n ask among
 
-  settling_of : (came : Option Message) (asks : List Ask) → IsSettling to address request came asks → AllOf request asks
+  pub settling_of : (came : Option Message) (asks : List Ask) → IsSettling to address request came asks → AllOf request asks
   settling_of None asks settling = subst (AllOf request) (sym settling) (failures_of 8)
   settling_of (Some reply) asks settling =
       subst (AllOf request) (sym settling.4) (both_of request (failures to address request settling.0) (ask_of to address request (Reply reply) ∷ []) (failures_of settling.0) (one_of (Reply reply)))
 
-  breaking_of : (asks : List Ask) → BreaksSettling to address request asks → AllOf request asks
+  pub breaking_of : (asks : List Ask) → BreaksSettling to address request asks → AllOf request asks
   breaking_of asks breaks = by breaks.2
     where
       by : (asks ≡ failures to address request breaks.0) ⊎ ((answer : Answer) × (asks ≡ failures to address request breaks.0 ++ ask_of to address request answer ∷ [])) → AllOf request asks
@@ -94,21 +93,46 @@ module _ (to : Peer) (address : List ℕ) (request : Message) where
 
 -- ---- one entry of a log has each number
 
-numbers_from : (number : ℕ) (base : Volume) (pending : List Entry) (entry : Entry) → AreEntriesOf number base pending → IsIn entry pending → number ≤ entry.seq
-numbers_from number base [] entry are among = absurd among
-numbers_from number base (first ∷ entries) entry are (inl is) = omega (arith, ap (λ (e : Entry). e.seq) is, are.0.numbered)
-numbers_from number base (first ∷ entries) entry are (inr among) = omega (arith, numbers_from (number + 1) (changed_all first.effects base) entries entry are.1 among)
+-- they are numbered on from this number
+abbrev pub AreNumbered : ℕ → List Entry → Type 0
+AreNumbered number [] = Unit {0}
+AreNumbered number (entry ∷ entries) = (entry.seq ≡ number) × AreNumbered (number + 1) entries
 
-one_entry : (number : ℕ) (base : Volume) (pending : List Entry) (a b : Entry) → AreEntriesOf number base pending → IsIn a pending → IsIn b pending → a.seq ≡ b.seq → a ≡ b
-one_entry number base [] a b are here there same = absurd here
-one_entry number base (first ∷ entries) a b are (inl is) (inl also) same = is ∙ sym also
-one_entry number base (first ∷ entries) a b are (inl is) (inr there) same =
-    absurd (omega (arith, ap (λ (e : Entry). e.seq) is, are.0.numbered, same, numbers_from (number + 1) (changed_all first.effects base) entries b are.1 there))
-one_entry number base (first ∷ entries) a b are (inr here) (inl also) same =
-    absurd (omega (arith, ap (λ (e : Entry). e.seq) also, are.0.numbered, same, numbers_from (number + 1) (changed_all first.effects base) entries a are.1 here))
-one_entry number base (first ∷ entries) a b are (inr here) (inr there) same = one_entry (number + 1) (changed_all first.effects base) entries a b are.1 here there same
+pub numbered_entries : (number : ℕ) (volume : Volume) (entries : List Entry) → AreEntriesOf number volume entries → AreNumbered number entries
+numbered_entries number volume [] all = tt
+numbered_entries number volume (entry ∷ entries) all = (all.0.numbered, numbered_entries (number + 1) (changed_all entry.effects volume) entries all.1)
 
-dropped_in : (n : ℕ) (entries : List Entry) (entry : Entry) → IsIn entry (drop n entries) → IsIn entry entries
+pub numbered_behind : (number count : ℕ) (entries : List Entry) → AreNumbered number entries → AreNumbered (number + count) (drop count entries)
+numbered_behind number zero entries all = let same : number ≡ number + 0 = omega arith in subst (λ (n : ℕ). AreNumbered n entries) same all
+numbered_behind number (suc count) [] all = tt
+numbered_behind number (suc count) (entry ∷ entries) all =
+    let same : number + 1 + count ≡ number + suc count = omega arith in subst (λ (n : ℕ). AreNumbered n (drop count entries)) same (numbered_behind (number + 1) count entries all.1)
+
+-- what a log acknowledges leaves the numbers of the others
+pub numbered_left : (log : Log) (upto : ℕ) → log.acked ≤ upto → AreNumbered (log.acked + 1) log.pending → AreNumbered (upto + 1) (drop (upto - log.acked) log.pending)
+numbered_left log upto low all =
+    let next : log.acked + 1 + (upto - log.acked) ≡ upto + 1 = omega (arith, low) in
+    subst (λ (n : ℕ). AreNumbered n (drop (upto - log.acked) log.pending)) next (numbered_behind (log.acked + 1) (upto - log.acked) log.pending all)
+
+numbers_from : (number : ℕ) (entries : List Entry) (entry : Entry) → AreNumbered number entries → IsIn entry entries → number ≤ entry.seq
+numbers_from number [] entry are among = absurd among
+numbers_from number (first ∷ entries) entry are (inl is) = omega (arith, ap (λ (e : Entry). e.seq) is, are.0)
+numbers_from number (first ∷ entries) entry are (inr among) = omega (arith, numbers_from (number + 1) entries entry are.1 among)
+
+-- of these entries no two have one number
+abbrev pub AreApart : List Entry → Type 0
+AreApart entries = (a b : Entry) → IsIn a entries → IsIn b entries → a.seq ≡ b.seq → a ≡ b
+
+pub numbered_apart : (number : ℕ) (entries : List Entry) → AreNumbered number entries → AreApart entries
+numbered_apart number [] are a b here there same = absurd here
+numbered_apart number (first ∷ entries) are a b (inl is) (inl also) same = is ∙ sym also
+numbered_apart number (first ∷ entries) are a b (inl is) (inr there) same =
+    absurd (omega (arith, ap (λ (e : Entry). e.seq) is, are.0, same, numbers_from (number + 1) entries b are.1 there))
+numbered_apart number (first ∷ entries) are a b (inr here) (inl also) same =
+    absurd (omega (arith, ap (λ (e : Entry). e.seq) also, are.0, same, numbers_from (number + 1) entries a are.1 here))
+numbered_apart number (first ∷ entries) are a b (inr here) (inr there) same = numbered_apart (number + 1) entries are.1 a b here there same
+
+pub dropped_in : (n : ℕ) (entries : List Entry) (entry : Entry) → IsIn entry (drop n entries) → IsIn entry entries
 dropped_in zero entries entry among = among
 dropped_in (suc n) [] entry among = absurd among
 dropped_in (suc n) (first ∷ entries) entry among = inr (dropped_in n entries entry among)
@@ -119,12 +143,23 @@ all_in P (first ∷ entries) entry all (inl is) = subst P (sym is) all.0
 all_in P (first ∷ entries) entry all (inr among) = all_in P entries entry all.1 among
 
 -- each number of a front is that of one of its entries
-numbered_in : (number : ℕ) (base : Volume) (front left : List Entry) (n : ℕ) → AreEntriesOf number base (front ++ left) → number ≤ n → n < number + length front → (entry : Entry) × IsIn entry front × (entry.seq ≡ n)
-numbered_in number base [] left n are low high = absurd (omega (arith, low, high))
-numbered_in number base (first ∷ front) left n are low high = elim (cases_lt number n) [
-  | inl above ↦ let more = numbered_in (number + 1) (changed_all first.effects base) front left n are.1 (omega (arith, above)) (omega (arith, high)) in (more.0, inr more.1, more.2)
-  | inr below ↦ (first, inl refl, omega (arith, are.0.numbered, low, below))
+numbered_in : (number : ℕ) (front left : List Entry) (n : ℕ) → AreNumbered number (front ++ left) → number ≤ n → n < number + length front → (entry : Entry) × IsIn entry front × (entry.seq ≡ n)
+numbered_in number [] left n are low high = absurd (omega (arith, low, high))
+numbered_in number (first ∷ front) left n are low high = elim (cases_lt number n) [
+  | inl above ↦ let more = numbered_in (number + 1) front left n are.1 (omega (arith, above)) (omega (arith, high)) in (more.0, inr more.1, more.2)
+  | inr below ↦ (first, inl refl, omega (arith, are.0, low, below))
 ]
+
+numbered_first : (number : ℕ) (pending : List Entry) (entry : Entry) → AreNumbered number pending → IsFirst entry pending → entry.seq ≡ number
+numbered_first number [] entry are first = absurd first
+numbered_first number (next ∷ entries) entry are first = ap (λ (e : Entry). e.seq) (sym first) ∙ are.0
+
+-- the pending entries of a log have the numbers behind the acknowledged one
+abbrev pub IsNumbered : Log → Type 0
+IsNumbered log = AreNumbered (log.acked + 1) log.pending
+
+pub log_numbered : (log : Log) → IsLog log → IsNumbered log
+log_numbered log is = numbered_entries (log.acked + 1) log.base log.pending is.entries
 
 -- ---- the asks of a turn
 
@@ -171,7 +206,7 @@ module _ (client : ℕ) (route : Route) where
   -- ---- licences
 
   module _ (entries : List Entry) where
-    licensed_then : (seen xs ys : List Ask) → AreLicensed client route entries seen xs → AreLicensed client route entries (seen ++ xs) ys → AreLicensed client route entries seen (xs ++ ys)
+    pub licensed_then : (seen xs ys : List Ask) → AreLicensed client route entries seen xs → AreLicensed client route entries (seen ++ xs) ys → AreLicensed client route entries seen (xs ++ ys)
     licensed_then seen [] ys first second = subst (λ (s : List Ask). AreLicensed client route entries s ys) (append-nil seen) second
     licensed_then seen (x ∷ xs) ys first second =
         (first.0, licensed_then (seen ++ x ∷ []) xs ys first.1 (subst (λ (s : List Ask). AreLicensed client route entries s ys) (sym (append_assoc seen (x ∷ []) xs)) second))
@@ -184,10 +219,13 @@ module _ (client : ℕ) (route : Route) where
           (λ ask more among. subst (λ (s : List Ask). MayBeAsked client route entries s ask) (sym (append_assoc seen (x ∷ []) more)) (each ask (x ∷ more) (inr among))),
     )
 
-    -- an operation always
+    -- asks that carry no entry always
+    pub uncarried_licensed : (seen asks : List Ask) → ((ask : Ask) → IsIn ask asks → (number : ℕ) → Carries number ask.request → ⊥) → AreLicensed client route entries seen asks
+    uncarried_licensed seen asks none = each_licensed seen asks (λ ask more among entry address other member carries light. absurd (none ask among entry.seq carries))
+
+    -- so an operation
     operations_licensed : (sketched : SketchEntry) (seen asks : List Ask) → AllOf (Operate client sketched) asks → AreLicensed client route entries seen asks
-    operations_licensed sketched seen asks all =
-        each_licensed seen asks (λ ask more among entry address other member carries light. absurd (subst (Carries entry.seq) (all ask among) carries))
+    operations_licensed sketched seen asks all = uncarried_licensed seen asks (λ ask among number carries. subst (Carries number) (all ask among) carries)
 
     due_licensed : (entry : Entry) (seen before : List Ask) → StoreIsDue client route entry before → AreLicensed client route entries seen before
     due_licensed entry seen before (inl heavy) = subst (AreLicensed client route entries seen) (sym heavy.1) tt
@@ -304,19 +342,19 @@ module _ (client : ℕ) (route : Route) where
       let on = goes_on client route middle.pending turn.entry middle.acked turn.number (after.acked + 1) turn.came (sym turn.end_is) (ships_reply client route middle.pending turn.entry turn.came asks turn.ships) in
       omega (arith, on.2, ap (λ (log : Log). log.acked) turn.after_is)
 
-  -- the log after a turn is a log, and its pending entries were pending
-  turn_log : (middle after : Log) (end : Option SyncEnd) (asks : List Ask) → IsLog middle → EntryTurn client route middle after end asks → IsLog after × ((entry : Entry) → IsIn entry after.pending → IsIn entry middle.pending)
+  -- the log after a turn is numbered as the one before it, and its pending entries were pending
+  turn_log : (middle after : Log) (end : Option SyncEnd) (asks : List Ask) → IsNumbered middle → EntryTurn client route middle after end asks → IsNumbered after × ((entry : Entry) → IsIn entry after.pending → IsIn entry middle.pending)
   turn_log middle after end asks is turn =
       let some : 1 ≤ length middle.pending = first_pending middle.pending turn.entry turn.first in
       let upto : ℕ = taken_upto middle.acked turn.came in
       let told = told_upto client route middle.pending turn.entry middle.acked turn.number turn.came some (ships_reply client route middle.pending turn.entry turn.came asks turn.ships) in (
-        subst IsLog (sym turn.after_is) (acknowledged_is_log middle upto is told.0 told.1),
+        subst IsNumbered (sym turn.after_is) (numbered_left middle upto told.0 is),
         λ entry among. dropped_in (upto - middle.acked) middle.pending entry (subst (λ (log : Log). IsIn entry log.pending) turn.after_is among),
       )
 
   -- and so is the log after acknowledgements
-  acked_log : (count : ℕ) (before after : Log) (trace : Trace) → IsLog before → Acknowledges client route count before after trace → IsLog after × ((entry : Entry) → IsIn entry after.pending → IsIn entry before.pending)
-  acked_log zero before after trace is so = (subst IsLog (sym so.0) is, λ entry among. subst (λ (log : Log). IsIn entry log.pending) so.0 among)
+  acked_log : (count : ℕ) (before after : Log) (trace : Trace) → IsNumbered before → Acknowledges client route count before after trace → IsNumbered after × ((entry : Entry) → IsIn entry after.pending → IsIn entry before.pending)
+  acked_log zero before after trace is so = (subst IsNumbered (sym so.0) is, λ entry among. subst (λ (log : Log). IsIn entry log.pending) so.0 among)
   acked_log (suc count) before after trace is so =
       let earlier = acked_log count before so.0 so.1 is so.3 in
       let turn = turn_log so.0 after None so.2 earlier.0 so.4 in
@@ -325,52 +363,53 @@ module _ (client : ℕ) (route : Route) where
   asks_of : (earlier trace : Trace) (asks : List Ask) → trace.asks ≡ earlier.asks ++ (asks ++ []) → trace.asks ≡ earlier.asks ++ asks
   asks_of earlier trace asks is = is ∙ ap (λ (more : List Ask). earlier.asks ++ more) (append-nil asks)
 
-  module _ (before : Log) (is : IsLog before) where
-    only_one : (entry : Entry) → IsIn entry before.pending → (other : Entry) → IsIn other before.pending → other.seq ≡ entry.seq → other ≡ entry
-    only_one entry among other member same = one_entry (before.acked + 1) before.base before.pending other entry is.entries member among same
+  -- of a log whose entries are numbered, and that stand among these entries, of which no two have one number
+  module _ (before : Log) (is : IsNumbered before) (entries : List Entry) (apart : AreApart entries) (hold : (entry : Entry) → IsIn entry before.pending → IsIn entry entries) where
+    only_one : (entry : Entry) → IsIn entry entries → (other : Entry) → IsIn other entries → other.seq ≡ entry.seq → other ≡ entry
+    only_one entry among other member same = apart other entry member among same
 
     -- of the first pending entry of a later log
     module _ (count : ℕ) (middle : Log) (earlier : Trace) (so : Acknowledges client route count before middle earlier) (entry : Entry) (first : IsFirst entry middle.pending) where
-      later : IsLog middle × ((entry : Entry) → IsIn entry middle.pending → IsIn entry before.pending)
+      later : IsNumbered middle × ((entry : Entry) → IsIn entry middle.pending → IsIn entry before.pending)
       later = acked_log count before middle earlier is so
 
-      was_pending : IsIn entry before.pending
-      was_pending = later.1 entry (first_in middle.pending entry first)
+      was_pending : IsIn entry entries
+      was_pending = hold entry (later.1 entry (first_in middle.pending entry first))
 
       has_number : entry.seq ≡ middle.acked + 1
-      has_number = first_number middle entry later.0 first
+      has_number = numbered_first (middle.acked + 1) middle.pending entry later.0 first
 
       -- those behind it in its window are heavy
-      behind : (chosen : List Entry) → IsWindow client route middle.pending chosen → (other : Entry) → IsIn other before.pending → entry.seq < other.seq → other.seq < entry.seq + length (parts_of chosen) → IsHeavy client route other
+      behind : (chosen : List Entry) → IsWindow client route middle.pending chosen → (other : Entry) → IsIn other entries → entry.seq < other.seq → other.seq < entry.seq + length (parts_of chosen) → IsHeavy client route other
       behind chosen window other member above within = by chosen window.front window.fits.heavy within
         where
           by : (chosen : List Entry) → middle.pending ≡ chosen ++ window.left → AllByRecursion (IsHeavy client route) (drop 1 chosen) → other.seq < entry.seq + length (parts_of chosen) → IsHeavy client route other
           by [] front heavy within = absurd (omega (arith, above, within))
           by (c ∷ cs) front heavy within =
-              let are : AreEntriesOf (middle.acked + 1) middle.base ((c ∷ cs) ++ window.left) = subst (AreEntriesOf (middle.acked + 1) middle.base) front later.0.entries in
+              let are : AreNumbered (middle.acked + 1) ((c ∷ cs) ++ window.left) = subst (AreNumbered (middle.acked + 1)) front later.0 in
               let long : length (parts_of cs) ≡ length cs = length-map cs (λ (e : Entry). part_of e.effects e.base) in
-              let found = numbered_in (middle.acked + 1 + 1) (changed_all c.effects middle.base) cs window.left other.seq are.1 (omega (arith, has_number, above)) (omega (arith, has_number, within, long)) in
+              let found = numbered_in (middle.acked + 1 + 1) cs window.left other.seq are.1 (omega (arith, has_number, above)) (omega (arith, has_number, within, long)) in
               let among : IsIn found.0 middle.pending = subst (IsIn found.0) (sym front) (IsIn-left found.0 (c ∷ cs) window.left (inr found.1)) in
-              subst (IsHeavy client route) (only_one other member found.0 (later.1 found.0 among) found.2) (all_in (IsHeavy client route) cs found.0 heavy found.1)
+              subst (IsHeavy client route) (only_one other member found.0 (hold found.0 (later.1 found.0 among)) found.2) (all_in (IsHeavy client route) cs found.0 heavy found.1)
 
-      next_licensed : (asks : List Ask) → TurnAsks middle.pending entry asks → AreLicensed client route before.pending [] earlier.asks → AreLicensed client route before.pending [] (earlier.asks ++ asks)
-      next_licensed asks turn so_far =
-          licensed_then before.pending [] earlier.asks asks so_far (turn_licensed before.pending middle.pending entry (only_one entry was_pending) behind earlier.asks asks turn)
+      next_licensed : (seen asks : List Ask) → TurnAsks middle.pending entry asks → AreLicensed client route entries seen earlier.asks → AreLicensed client route entries seen (earlier.asks ++ asks)
+      next_licensed seen asks turn so_far =
+          licensed_then entries seen earlier.asks asks so_far (turn_licensed entries middle.pending entry (only_one entry was_pending) behind (seen ++ earlier.asks) asks turn)
 
       next_numbers : (asks : List Ask) → TurnAsks middle.pending entry asks → (ask : Ask) → IsIn ask asks → number_of ask.request ≡ middle.acked + 1
       next_numbers asks turn ask among = turn_number middle.pending entry asks turn ask among ∙ has_number
 
-      next_costs : (done : Entry) (address : List ℕ) (sketched : SketchEntry) → IsLight client route done address sketched → IsIn done before.pending → (asks : List Ask) → TurnAsks middle.pending entry asks → CostsOperations done address sketched asks
+      next_costs : (done : Entry) (address : List ℕ) (sketched : SketchEntry) → IsLight client route done address sketched → IsIn done entries → (asks : List Ask) → TurnAsks middle.pending entry asks → CostsOperations done address sketched asks
       next_costs done address sketched light member asks turn answered ask among number =
           let same : entry ≡ done = only_one done member entry was_pending (sym (turn_number middle.pending entry asks turn ask among) ∙ number) in
           turn_costs done address sketched light middle.pending asks (subst (λ (e : Entry). TurnAsks middle.pending e asks) same turn) answered ask among number
 
-    acked_licensed : (count : ℕ) (after : Log) (trace : Trace) → Acknowledges client route count before after trace → AreLicensed client route before.pending [] trace.asks
-    acked_licensed zero after trace so = subst (AreLicensed client route before.pending []) (sym (ap (λ (n : Trace). n.asks) so.1)) tt
-    acked_licensed (suc count) after trace so =
+    acked_licensed : (seen : List Ask) (count : ℕ) (after : Log) (trace : Trace) → Acknowledges client route count before after trace → AreLicensed client route entries seen trace.asks
+    acked_licensed seen zero after trace so = subst (AreLicensed client route entries seen) (sym (ap (λ (n : Trace). n.asks) so.1)) tt
+    acked_licensed seen (suc count) after trace so =
         let turn = so.4 in
-        subst (AreLicensed client route before.pending []) (sym (asks_of so.1 trace so.2 (ap (λ (n : Trace). n.asks) so.5)))
-        (next_licensed count so.0 so.1 so.3 turn.entry turn.first so.2 (ships_turn so.0.pending turn.entry turn.came so.2 turn.ships) (acked_licensed count so.0 so.1 so.3))
+        subst (AreLicensed client route entries seen) (sym (asks_of so.1 trace so.2 (ap (λ (n : Trace). n.asks) so.5)))
+        (next_licensed count so.0 so.1 so.3 turn.entry turn.first seen so.2 (ships_turn so.0.pending turn.entry turn.came so.2 turn.ships) (acked_licensed seen count so.0 so.1 so.3))
 
     acked_numbers : (count : ℕ) (after : Log) (trace : Trace) → Acknowledges client route count before after trace → (ask : Ask) → IsIn ask trace.asks → number_of ask.request ≤ after.acked
     acked_numbers zero after trace so ask among = absurd (subst (IsIn ask) (ap (λ (n : Trace). n.asks) so.1) among)
@@ -381,7 +420,7 @@ module _ (client : ℕ) (route : Route) where
         (λ (there : IsIn ask so.2). omega (arith, rises, next_numbers count so.0 so.1 so.3 turn.entry turn.first so.2 (ships_turn so.0.pending turn.entry turn.came so.2 turn.ships) ask there))
         (in_either ask so.1.asks so.2 (subst (IsIn ask) (asks_of so.1 trace so.2 (ap (λ (n : Trace). n.asks) so.5)) among))
 
-    module _ (done : Entry) (address : List ℕ) (sketched : SketchEntry) (member : IsIn done before.pending) (light : IsLight client route done address sketched) where
+    module _ (done : Entry) (address : List ℕ) (sketched : SketchEntry) (member : IsIn done entries) (light : IsLight client route done address sketched) where
       acked_costs : (count : ℕ) (after : Log) (trace : Trace) → Acknowledges client route count before after trace → CostsOperations done address sketched trace.asks
       acked_costs zero after trace so = λ said ask among number. absurd (subst (IsIn ask) (ap (λ (n : Trace). n.asks) so.1) among)
       acked_costs (suc count) after trace so =
@@ -422,17 +461,17 @@ module _ (client : ℕ) (route : Route) where
               subst (LastTurn broken.1.1) (sym (ap (λ (n : Trace). n.asks) last.4)) (inr (last.0, last.2, breaks_turn broken.1.1.pending last.0 last.1 last.3))
           by (inr (inr unkept)) = of_turn broken.1.1 (Some unkept.0) broken.1.3 unkept.1 (ap (λ (n : Trace). n.asks) unkept.4 ∙ append-nil unkept.1) unkept.2
 
-      licensed_by : IsSync → AreLicensed client route before.pending [] trace.asks
-      licensed_by sync = subst (AreLicensed client route before.pending []) (sym sync.6) (by sync.5)
+      licensed_by : (seen : List Ask) → IsSync → AreLicensed client route entries seen trace.asks
+      licensed_by seen sync = subst (AreLicensed client route entries seen) (sym sync.6) (by sync.5)
         where
-          so_far : AreLicensed client route before.pending [] sync.2.asks
-          so_far = acked_licensed sync.0 sync.1 sync.2 sync.4
+          so_far : AreLicensed client route entries seen sync.2.asks
+          so_far = acked_licensed seen sync.0 sync.1 sync.2 sync.4
 
-          by : LastTurn sync.1 sync.3 → AreLicensed client route before.pending [] (sync.2.asks ++ sync.3)
-          by (inl none) = licensed_then before.pending [] sync.2.asks sync.3 so_far (subst (AreLicensed client route before.pending sync.2.asks) (sym none) tt)
-          by (inr turn) = next_licensed sync.0 sync.1 sync.2 sync.4 turn.0 turn.1 sync.3 turn.2 so_far
+          by : LastTurn sync.1 sync.3 → AreLicensed client route entries seen (sync.2.asks ++ sync.3)
+          by (inl none) = licensed_then entries seen sync.2.asks sync.3 so_far (subst (AreLicensed client route entries (seen ++ sync.2.asks)) (sym none) tt)
+          by (inr turn) = next_licensed sync.0 sync.1 sync.2 sync.4 turn.0 turn.1 seen sync.3 turn.2 so_far
 
-      costs_by : (done : Entry) (address : List ℕ) (sketched : SketchEntry) → IsIn done before.pending → IsLight client route done address sketched → IsSync → CostsOperations done address sketched trace.asks
+      costs_by : (done : Entry) (address : List ℕ) (sketched : SketchEntry) → IsIn done entries → IsLight client route done address sketched → IsSync → CostsOperations done address sketched trace.asks
       costs_by done address sketched member light sync = subst (CostsOperations done address sketched) (sym sync.6) (by sync.5)
         where
           so_far : CostsOperations done address sketched sync.2.asks
@@ -455,16 +494,32 @@ module _ (client : ℕ) (route : Route) where
 
 -- ---- the laws
 
+module _ (client : ℕ) (route : Route) (before after kept : Log) (end : SyncEnd) (trace : Trace) (is : IsNumbered before) (sync : SyncEnds client route before end after kept trace) where
+  -- among any entries, of which no two have one number, behind whatever was asked before
+  pub numbered_licensed : (entries : List Entry) → AreApart entries → ((entry : Entry) → IsIn entry before.pending → IsIn entry entries) → (seen : List Ask) → AreLicensed client route entries seen trace.asks
+  numbered_licensed entries apart hold seen =
+      licensed_by client route before is entries apart hold after kept end trace seen (is_sync client route before is entries apart hold after kept end trace sync)
+
+  pub pending_licensed : AreLicensed client route before.pending [] trace.asks
+  pending_licensed = numbered_licensed before.pending (numbered_apart (before.acked + 1) before.pending is) (λ entry among. among) []
+
+  pub pending_costs : (done : Entry) (address : List ℕ) (sketched : SketchEntry) → IsIn done before.pending → IsLight client route done address sketched
+      → IsIn (ask_of Surrogate address (Operate client sketched) (Reply (Done client done.seq))) trace.asks → (ask : Ask) → IsIn ask trace.asks
+      → (number_of ask.request ≡ done.seq) ⊎ Carries done.seq ask.request → ask.request ≡ Operate client sketched
+  pending_costs done address sketched member light answered ask among of =
+      let apart = numbered_apart (before.acked + 1) before.pending is in
+      let so = is_sync client route before is before.pending apart (λ entry among. among) after kept end trace sync in
+      costs_by client route before is before.pending apart (λ entry among. among) after kept end trace done address sketched member light so answered ask among
+      (⊎_elim (λ (same : number_of ask.request ≡ done.seq). same)
+      (λ (carries : Carries done.seq ask.request). carried_number client route before.pending [] trace.asks pending_licensed ask among done address sketched member carries light)
+      of)
+
 pub syncs_licensed : SyncsAreLicensed
-syncs_licensed client route before after kept end trace is sync = licensed_by client route before is after kept end trace (is_sync client route before is after kept end trace sync)
+syncs_licensed client route before after kept end trace is sync = pending_licensed client route before after kept end trace (log_numbered before is) sync
 
 pub done_costs : DoneEntriesCostOperations
 done_costs client route before after kept end trace is sync done address sketched member light answered ask among of =
-    let so = is_sync client route before is after kept end trace sync in
-    costs_by client route before is after kept end trace done address sketched member light so answered ask among
-    (⊎_elim (λ (same : number_of ask.request ≡ done.seq). same)
-    (λ (carries : Carries done.seq ask.request). carried_number client route before.pending [] trace.asks (licensed_by client route before is after kept end trace so) ask among done address sketched member carries light)
-    of)
+    pending_costs client route before after kept end trace (log_numbered before is) sync done address sketched member light answered ask among of
 
 pub unanswered_failed : UnansweredStoresFailed
 unanswered_failed client route before after number trace sync = by sync.5

@@ -1,5 +1,5 @@
 -- What a pull makes of its settling.
-use Rattle.std.proofs.Common.{Bool, false, is_some, ◌≡◌, ◌≢◌, ◌⊎◌, inl, inr, ℕ, ◌≤◌, List, [], ◌∷◌, length, Option, Some, None, IfSome, Result, Ok, Err, IfOk, refl, sym, ap, subst, arith}
+use Rattle.std.proofs.Common.{Bool, false, is_some, ◌≡◌, ◌≢◌, ◌⊎◌, inl, inr, ℕ, ◌≤◌, List, [], ◌∷◌, length, Option, Some, None, IfSome, Result, Ok, Err, IfOk, refl, sym, ◌∙◌, ap, subst, arith}
 use Rattle.std.specs.Prelude.{unwrap_or}
 use Rattle.std.specs.declared.alloc.AllocError.{AllocError}
 use Rattle.outside.specs.Outside.{Told, Rose}
@@ -10,7 +10,8 @@ use Rattle.tree_values.specs.Lists.{IsIn}
 use Rattle.tree_values.specs.Tree.{Volume, version_at, IsTree, AreInOrder}
 use Rattle.tree_values.specs.declared.node.Row.{Row}
 use Rattle.mod_log.specs.declared.log.Entry.{Entry}
-use Rattle.mod_log.specs.Log.{Log, IsLog, pulled}
+use Rattle.store_image.specs.Spelling.{client as image}
+use Rattle.mod_log.specs.Log.{Log, IsLog, pulled, tree_of}
 use Rattle.wire_frames.specs.declared.message.Message.{Message}
 use Rattle.wire_frames.specs.declared.message.Message.TheVariants.{Pull, Snapshot}
 use Rattle.wire_frames.specs.Frame.{IsValid, Echoes}
@@ -29,13 +30,15 @@ use Rattle.world_rules.proofs.Sending.{sent_valid}
 use Rattle.client_core.specs.declared.route.Route.{Route}
 use Rattle.client_core.specs.declared.pulling.PullEnd.{PullEnd}
 use Rattle.client_core.specs.declared.pulling.PullEnd.TheVariants as ends
+use Rattle.client_core.specs.declared.pulling.Pulling.{Pulling}
+use Rattle.client_core.specs.declared.pulling.Pulling.TheVariants.{Replaced, Ended}
 use Rattle.client_core.specs.Trace.{Trace, followed, asking, pulling}
-use Rattle.client_core.specs.Pulling.{pull_of, Meets, pull_change, pulled_end, is_broken_pull, PullsSnapshot, PullTurn, PullAsks, PullEnds}
-use Rattle.client_core.specs.Keeping.{IsKept, Keeping}
+use Rattle.client_core.specs.Pulling.{pull_of, Meets, IsKeptBase, PullChanges, pulled_end, is_broken_pull, PullsSnapshot, PullTurn, PullAsks, PullEnds}
+use Rattle.client_core.specs.Keeping.{IsKept, Keeping, KeepsNext}
 use Rattle.client_core.specs.Goes.{Goes, Went, stand, no_runner}
-use Rattle.client_core.specs.Causes.{TakesRows, HasPullCause, PullKeeps}
+use Rattle.client_core.specs.Causes.{TakesRows, HasPullCause, PullKeeps, PullWrites}
 use Rattle.client_core.specs.Honest.{IsNotOtherLast, IsNotOlder}
-use Rattle.client_core.specs.Inside.{MeetsEnds, PullLeaves, first_lower, snapshot_of}
+use Rattle.client_core.specs.Inside.{end_of, MeetsEnds, ReplacesUnkept, PullLeaves, first_lower, snapshot_of}
 use Rattle.client_core.proofs.Going.{changed_so, keeping_none, keeping_unkept, keeping_saved, goes_none, goes_as, goes_asked, Met, goes_pulled, goes_saved}
 use Rattle.client_core.proofs.Standing.{settled_stands}
 use Rattle.client_core.proofs.Olders.{nowhere_older, first_older}
@@ -60,25 +63,46 @@ pull_valid client log low high is none = sent_valid client false log (pull_of cl
 -- ---- what a log makes of a snapshot
 
 pub meets_older : (log : Log) (seen : Volume) (row : Row) (end : PullEnd) → AreInOrder log.base → first_lower log.base seen ≡ Some row
-    → (end ≡ ends.Older row.path (version_at seen row.path) row.version) ⊎ (end ≡ ends.Memory) → MeetsEnds log log.acked seen end log
+    → (end ≡ ends.Older row.path (version_at seen row.path) row.version) ⊎ (end ≡ ends.Memory) → MeetsEnds log log.acked seen (Ended end) log
 meets_older log seen row end order found (inl is) =
     let first = first_older log.base seen row order found in
-    subst (λ (e : PullEnd). MeetsEnds log log.acked seen e log) (sym is) (inl (refl, first.0, refl, sym first.1, refl))
-meets_older log seen row end order found (inr is) = inr (is, refl)
+    subst (λ (e : PullEnd). MeetsEnds log log.acked seen (Ended e) log) (sym is) (inl ((refl, first.0, refl, sym first.1, refl), tt))
+meets_older log seen row end order found (inr is) = inr (ap Ended is, refl)
 
-pub meets_newer : (log after : Log) (seen : Volume) (count : ℕ) → first_lower log.base seen ≡ None → count ≡ length seen → after ≡ pulled seen log → MeetsEnds log log.acked seen (ends.Pulled count) after
-meets_newer log after seen count none is pulls = inl (refl, nowhere_older log.base seen none, is, pulls)
+pub meets_newer : (log after : Log) (seen : Volume) (count : ℕ) → (IsKeptBase log seen → ⊥) → first_lower log.base seen ≡ None → count ≡ length seen → after ≡ pulled seen log
+    → MeetsEnds log log.acked seen (Replaced count) after
+meets_newer log after seen count other none is pulls = inl ((refl, nowhere_older log.base seen none, is, pulls), other)
+
+-- the rows of its base change nothing
+pulled_same : (log : Log) (seen : Volume) → seen ≡ log.base → pulled seen log ≡ log
+pulled_same log seen is = λ k. record { acked = log.acked; base = is k; pending = log.pending }
+
+pub meets_kept : (log : Log) (seen tree : Volume) (count : ℕ) → log.pending ≡ [] → IsKeptBase log seen → tree ≡ tree_of log → count ≡ length tree → MeetsEnds log log.acked seen (Ended (ends.Pulled count)) log
+meets_kept log seen tree count none kept tree_is count_is =
+    inl ((refl, λ path. subst (λ (v : Volume). version_at log.base path ≤ version_at v path) (sym kept.0) (omega arith), counted, sym (pulled_same log seen kept.0)), kept)
+  where
+    base_is : tree_of log ≡ log.base
+    base_is = ap (λ (entries : List Entry). tree_of (record { acked = log.acked; base = log.base; pending = entries })) none
+
+    counted : count ≡ length seen
+    counted = count_is ∙ ap length (tree_is ∙ base_is ∙ sym kept.0)
 
 -- ---- what a pull meets from in step
 
 module _ (client : ℕ) (before : Log) (none : before.pending ≡ []) (last : ℕ) (seen : Volume) where
-  pub never_older : (x y : World) → IsFreshReply (pull_of client before) x y (Snapshot client before.acked last seen) → InStep client before x → (end : PullEnd) (after : Log) → MeetsEnds before last seen end after → IsNotOlder end
-  never_older x y fresh now end after (inr broken) = λ path theirs ours is. let memory = broken.0 in absurd (cc)
-  never_older x y fresh now end after (inl met) = λ path theirs ours is.
+  met_not_older : (x y : World) → IsFreshReply (pull_of client before) x y (Snapshot client before.acked last seen) → InStep client before x → (end : PullEnd) (after : Log) → Meets before last seen end after → IsNotOlder end
+  met_not_older x y fresh now end after met = λ path theirs ours is.
       let same : Meets before last seen (ends.Older path theirs ours) after = subst (λ (e : PullEnd). Meets before last seen e after) is met in
       let newer : version_at before.base path ≤ version_at seen path = fresh_newer client before fresh.0 x y last seen path now none fresh.1 in
       let lower = same.1.lower in
       absurd (omega (arith, newer, lower))
+
+  pub never_older : (x y : World) → IsFreshReply (pull_of client before) x y (Snapshot client before.acked last seen) → InStep client before x → (came : Pulling) (after : Log) → MeetsEnds before last seen came after
+      → IsNotOlder (end_of came)
+  never_older x y fresh now came after (inl met) = met_not_older x y fresh now (end_of came) after met.0
+  never_older x y fresh now came after (inr broken) = λ path theirs ours is.
+      let memory : end_of came ≡ ends.Memory = ap end_of broken.0 in
+      absurd (cc)
 
   -- nor another last number than that of a snapshot among the packets
   never_other : (y : World) → InStep client before y → IsIn (Snapshot client before.acked last seen) y.packets → (end : PullEnd) (after : Log) → Meets before last seen end after → IsNotOtherLast end
@@ -134,14 +158,15 @@ module _ (client : ℕ) (route : Route) (before : Log) (i : Option Images) (keep
 
     module _ (last : ℕ) (seen : Volume) (done : Settled Server route.server request t u (Ok (Some (Snapshot client before.acked last seen))))
         (direct : IsCalm t u → ToldWorlds t u (λ x y. IsFreshReply request x y (Snapshot client before.acked last seen))) where
-      snapshot : (end : PullEnd) (after : Log) (trace : Trace) → Meets before last seen end after → trace ≡ followed (asking done.asks) (pull_change end after) → PullsSnapshot client route before end after trace
-      snapshot end after trace met is = record { last = last; seen = seen; asks = done.asks; idle = none; settling = done.settling; met = met; trace_is = is }
+      snapshot : (end : PullEnd) (after : Log) (changes : List Log) → Meets before last seen end after → PullChanges before seen end after changes → PullsSnapshot client route before end after (followed (asking done.asks) (pulling end changes))
+      snapshot end after changes met changed =
+          record { last = last; seen = seen; asks = done.asks; idle = none; settling = done.settling; met = met; changes = changes; changed = changed; trace_is = refl }
 
       -- a snapshot came, and the log met it
-      came : (end : PullEnd) (after : Log) (changes : List Log) → Meets before last seen end after → pulling end changes ≡ pull_change end after → Keeping name client before after before changes i i
+      came : (end : PullEnd) (after : Log) (changes : List Log) → Meets before last seen end after → PullChanges before seen end after changes → Keeping name client before after before changes i i
           → ((y : World) → IsIn (Snapshot client before.acked last seen) y.packets → Runs client ships [] [] (kept_at before y) (stand after before y))
           → ((trace : Trace) → PullsSnapshot client route before end after trace → PullTurn client route before end after trace) → Pulls_so end after
-      came end after changes met is keeping runs turned =
+      came end after changes met changed keeping runs turned =
           goes_pulled name client ships (PullAsks client route before end after) end done.asks changes before after i no_runner t u keeping
           (told_as t.world u.world (λ x y. (Moved request done.asks x y × AnswersStand y done.asks) × (IsCalm t u → IsFreshReply request x y (Snapshot client before.acked last seen)))
           (Met name client ships done.asks end before after t.troubles u.troubles)
@@ -150,33 +175,36 @@ module _ (client : ℕ) (route : Route) (before : Log) (i : Option Images) (keep
           let stands = settled_stands Server route.server request y (Some (Snapshot client before.acked last seen)) done.asks done.settling so.0.1 in (
             moved_runs client ships before request done.asks x y (pull_sends client ships before none) so.0.0 so.0.1,
             runs y stands.0,
-            λ begun now. (never_other client before none last seen y now stands.0 end after met, λ calm. never_older client before none last seen x y (so.1 calm) begun end after (inl met)),
+            λ begun now. (never_other client before none last seen y now stands.0 end after met, λ calm. met_not_older client before none last seen x y (so.1 calm) begun end after met),
           )))
           done.rose
-          (inl (turned (followed (asking done.asks) (pulling end changes)) (snapshot end after (followed (asking done.asks) (pulling end changes)) met (ap (λ (n : Trace). followed (asking done.asks) n) is))))
+          (inl (turned (followed (asking done.asks) (pulling end changes)) (snapshot end after changes met changed)))
 
       -- the log stays
-      stays : (end : PullEnd) → Meets before last seen end before → pulling end [] ≡ pull_change end before
+      stays : (end : PullEnd) → Meets before last seen end before → PullChanges before seen end before []
           → ((trace : Trace) → PullsSnapshot client route before end before trace → PullTurn client route before end before trace) → Pulls_so end before
-      stays end met is turned = came end before [] met is (keeping_none name client before i keeps) (λ y among. runs_none client ships (kept_at before y)) turned
+      stays end met changed turned = came end before [] met changed (keeping_none name client before i keeps) (λ y among. runs_none client ships (kept_at before y)) turned
 
       -- a pull that replaces the base
-      replaces : (count : ℕ) → Meets before last seen (ends.Pulled count) (pulled seen before) → Pulls_so (ends.Pulled count) (pulled seen before)
-      replaces count met =
+      replaces : (count : ℕ) → (IsKeptBase before seen → ⊥) → Meets before last seen (ends.Pulled count) (pulled seen before) → Pulls_so (ends.Pulled count) (pulled seen before)
+      replaces count other met =
           let after : Log = pulled seen before in
-          came (ends.Pulled count) after (after ∷ []) met refl (keeping_unkept name client before after i keeps) (λ y among. runs_once client ships (kept_at before y) (Pulls last seen) (none, met.0, among, met.1)) (λ trace turn. turn)
+          came (ends.Pulled count) after (after ∷ []) met (inr (other, refl)) (keeping_unkept name client before after i keeps) (λ y among. runs_once client ships (kept_at before y) (Pulls last seen) (none, met.0, among, met.1)) (λ trace turn. turn)
 
-      by_end : (end : PullEnd) (after : Log) → Meets before last seen end after → Pulls_so end after
-      by_end (ends.Pulled count) after met =
-          subst (Pulls_so (ends.Pulled count)) (sym met.3) (replaces count (subst (Meets before last seen (ends.Pulled count)) met.3 met))
-      by_end (ends.OtherLast other acked) after met =
+      by_end : (taken : Pulling) (after : Log) → Meets before last seen (end_of taken) after → ReplacesUnkept before seen taken → Pulls_so (end_of taken) after
+      by_end (Replaced count) after met other =
+          subst (Pulls_so (ends.Pulled count)) (sym met.3) (replaces count other (subst (Meets before last seen (ends.Pulled count)) met.3 met))
+      by_end (Ended (ends.Pulled count)) after met kept =
+          let same : after ≡ before = met.3 ∙ pulled_same before seen kept.0 in
+          subst (Pulls_so (ends.Pulled count)) (sym same) (stays (ends.Pulled count) (subst (Meets before last seen (ends.Pulled count)) same met) (inl (kept, refl)) (λ trace turn. turn))
+      by_end (Ended (ends.OtherLast other acked)) after met so =
           subst (Pulls_so (ends.OtherLast other acked)) (sym met.3) (stays (ends.OtherLast other acked) (subst (Meets before last seen (ends.OtherLast other acked)) met.3 met) refl (λ trace turn. turn))
-      by_end (ends.Older path theirs ours) after met =
+      by_end (Ended (ends.Older path theirs ours)) after met so =
           subst (Pulls_so (ends.Older path theirs ours)) (sym met.4) (stays (ends.Older path theirs ours) (subst (Meets before last seen (ends.Older path theirs ours)) met.4 met) refl (λ trace turn. turn))
-      by_end (ends.Pending count) after met = absurd met
-      by_end ends.Unanswered after met = absurd met
-      by_end ends.KeepFault after met = absurd met
-      by_end ends.Memory after met = absurd met
+      by_end (Ended (ends.Pending count)) after met so = absurd met
+      by_end (Ended ends.Unanswered) after met so = absurd met
+      by_end (Ended ends.KeepFault) after met so = absurd met
+      by_end (Ended ends.Memory) after met so = absurd met
 
       -- memory was wanted once the snapshot had come
       unread : Pulls_so ends.Memory before
@@ -185,10 +213,10 @@ module _ (client : ℕ) (route : Route) (before : Log) (i : Option Images) (keep
           asked ends.Memory (Ok (Some (Snapshot client before.acked last seen))) done
           (inr (refl, (done.asks, none, refl, (made.0, made.1, inr (Reply (Snapshot client before.acked last seen), made.4)), refl)))
 
-      pub pull_met : (end : PullEnd) (after : Log) → MeetsEnds before last seen end after → Pulls_so end after
-      pull_met end after (inl met) = by_end end after met
-      pull_met end after (inr broken) =
-          subst (λ (l : Log). Pulls_so end l) (sym broken.1) (subst (λ (e : PullEnd). Pulls_so e before) (sym broken.0) unread)
+      pub pull_met : (taken : Pulling) (after : Log) → MeetsEnds before last seen taken after → Pulls_so (end_of taken) after
+      pull_met taken after (inl met) = by_end taken after met.0 met.1
+      pull_met taken after (inr broken) =
+          subst (λ (l : Log). Pulls_so (end_of taken) l) (sym broken.1) (subst (λ (p : Pulling). Pulls_so (end_of p) before) (sym broken.0) unread)
 
 -- ---- causes
 
@@ -202,42 +230,52 @@ module _ (before : Log) (t u p q : ℕ) (none : before.pending ≡ []) where
   met_cause last seen tree ends.KeepFault after met = absurd met
   met_cause last seen tree ends.Memory after met = absurd met
 
-  pub pull_cause : (last : ℕ) (seen : Volume) → IsTree seen → (end : PullEnd) (after : Log) → MeetsEnds before last seen end after → HasPullCause end before after t u p q
-  pull_cause last seen tree end after (inl met) = met_cause last seen tree end after met
-  pull_cause last seen tree end after (inr broken) = subst (λ (e : PullEnd). HasPullCause e before after t u p q) (sym broken.0) (none, inl broken.1)
+  pub pull_cause : (last : ℕ) (seen : Volume) → IsTree seen → (taken : Pulling) (after : Log) → MeetsEnds before last seen taken after → HasPullCause (end_of taken) before after t u p q
+  pull_cause last seen tree taken after (inl met) = met_cause last seen tree (end_of taken) after met.0
+  pull_cause last seen tree taken after (inr broken) = subst (λ (n : Pulling). HasPullCause (end_of n) before after t u p q) (sym broken.0) (none, inl broken.1)
 
 -- ---- what a pull leaves before it keeps anything
 
 module _ (before : Log) (none : before.pending ≡ []) (last : ℕ) (seen : Volume) (tree : IsTree seen) where
-  met_leaves : (end : PullEnd) (after : Log) → Meets before last seen end after → PullLeaves end before after
-  met_leaves (ends.Pulled count) after met = (none, (last, seen, count, tree, met))
-  met_leaves (ends.OtherLast other acked) after met = met.3
-  met_leaves (ends.Older path theirs ours) after met = met.4
-  met_leaves (ends.Pending count) after met = absurd met
-  met_leaves ends.Unanswered after met = absurd met
-  met_leaves ends.KeepFault after met = absurd met
-  met_leaves ends.Memory after met = absurd met
+  met_leaves : (taken : Pulling) (after : Log) → Meets before last seen (end_of taken) after → ReplacesUnkept before seen taken → PullLeaves taken before after
+  met_leaves (Replaced count) after met other =
+      (none, (last, seen, count, tree, met), λ kept. other (subst (λ (v : Volume). IsKeptBase before v) (ap (λ (l : Log). l.base) met.3) kept))
+  met_leaves (Ended (ends.Pulled count)) after met kept =
+      (met.3 ∙ pulled_same before seen kept.0, subst (λ (v : Volume). IsKeptBase before v) (sym (ap (λ (l : Log). l.base) met.3)) kept)
+  met_leaves (Ended (ends.OtherLast other acked)) after met so = met.3
+  met_leaves (Ended (ends.Older path theirs ours)) after met so = met.4
+  met_leaves (Ended (ends.Pending count)) after met so = absurd met
+  met_leaves (Ended ends.Unanswered) after met so = absurd met
+  met_leaves (Ended ends.KeepFault) after met so = absurd met
+  met_leaves (Ended ends.Memory) after met so = absurd met
 
-  pub pull_leaves : (end : PullEnd) (after : Log) → MeetsEnds before last seen end after → PullLeaves end before after
-  pull_leaves end after (inl met) = met_leaves end after met
-  pull_leaves end after (inr broken) = subst (λ (e : PullEnd). PullLeaves e before after) (sym broken.0) broken.1
+  pub pull_leaves : (taken : Pulling) (after : Log) → MeetsEnds before last seen taken after → PullLeaves taken before after
+  pull_leaves taken after (inl met) = met_leaves taken after met.0 met.1
+  pull_leaves taken after (inr broken) = subst (λ (p : Pulling). PullLeaves p before after) (sym broken.0) broken.1
 
 -- ---- the keeping behind a pull
 
 -- rows were taken, and the log was to be kept
-pub pulled_went : (client : ℕ) (route : Route) (before after : Log) (i l : Option Images) (t u : LinkTelling) (count : ℕ) (r : Result (Unit {0}) KeepError) → Told i l (KeepsLog route.image client after r)
+pub pulled_went : (client : ℕ) (route : Route) (before after : Log) (i l : Option Images) (t u : LinkTelling) (count : ℕ) (r : Result (Unit {0}) KeepError) → (IsKeptBase before after.base → ⊥)
+    → Told i l (KeepsLog route.image client after r)
     → Goes client (is_some route.surrogate) route.image (PullAsks client route before (ends.Pulled count) after) before after before i i no_runner no_runner t u
     → Went client (is_some route.surrogate) route.image (PullEnds client route before (pulled_end count r) after) before after i l t u
-pulled_went client route before after i l t u count r save goes =
+pulled_went client route before after i l t u count r other save goes =
     by r (goes_saved route.image client (is_some route.surrogate) (PullAsks client route before (ends.Pulled count) after) before after before i i l no_runner no_runner t u r goes (changed goes.trace goes.turn) save)
   where
-    changed : (trace : Trace) → PullAsks client route before (ends.Pulled count) after trace → trace.changes ≢ []
-    changed trace (inl turn) = changed_so trace.changes after [] (ap (λ (n : Trace). n.changes) turn.trace_is)
-    changed trace (inr broken) = absurd (cc (broken.0))
-
     snapshot : (trace : Trace) → PullAsks client route before (ends.Pulled count) after trace → PullsSnapshot client route before (ends.Pulled count) after trace
     snapshot trace (inl turn) = turn
     snapshot trace (inr broken) = absurd (cc (broken.0))
+
+    unkept : (trace : Trace) (came : PullsSnapshot client route before (ends.Pulled count) after trace) → IsKeptBase before came.seen → ⊥
+    unkept trace came = λ kept. other (subst (λ (v : Volume). IsKeptBase before v) (sym (ap (λ (l : Log). l.base) came.met.3)) kept)
+
+    changed_by : (trace : Trace) (came : PullsSnapshot client route before (ends.Pulled count) after trace) → PullChanges before came.seen (ends.Pulled count) after came.changes → trace.changes ≢ []
+    changed_by trace came (inl kept) = absurd (unkept trace came kept.0)
+    changed_by trace came (inr more) = changed_so trace.changes after [] (ap (λ (n : Trace). n.changes) came.trace_is ∙ more.1)
+
+    changed : (trace : Trace) → PullAsks client route before (ends.Pulled count) after trace → trace.changes ≢ []
+    changed trace asks = let came = snapshot trace asks in changed_by trace came came.changed
 
     by : (r : Result (Unit {0}) KeepError) → (now : Log) × Goes client (is_some route.surrogate) route.image (PullAsks client route before (ends.Pulled count) after) before after now i l no_runner no_runner t u × IfOk r (λ done. now ≡ after)
         → Went client (is_some route.surrogate) route.image (PullEnds client route before (pulled_end count r) after) before after i l t u
@@ -249,45 +287,41 @@ pulled_went client route before after i l t u count r save goes =
     by (Err keepers.Failed) saved = (
       saved.0,
       goes_as route.image client (is_some route.surrogate) (PullAsks client route before (ends.Pulled count) after) (PullEnds client route before ends.KeepFault after saved.0) before after saved.0 i l no_runner no_runner t u saved.1
-          (λ trace turn. inr (refl, inr (count, snapshot trace turn))),
+          (λ trace turn. inr (refl, inr (count, snapshot trace turn, unkept trace (snapshot trace turn)))),
     )
     by (Err keepers.Memory) saved = (
       saved.0,
       goes_as route.image client (is_some route.surrogate) (PullAsks client route before (ends.Pulled count) after) (PullEnds client route before ends.Memory after saved.0) before after saved.0 i l no_runner no_runner t u saved.1
-          (λ trace turn. inr (refl, inr (count, snapshot trace turn))),
+          (λ trace turn. inr (refl, inr (count, snapshot trace turn, unkept trace (snapshot trace turn)))),
     )
 
--- ends that are no Pulled
-abbrev pub IsUnpulled : PullEnd → Type 0
-IsUnpulled (ends.Pulled count) = ⊥
-IsUnpulled end = Unit {0}
-
+-- where nothing is to be kept, the log is as before
 module _ (before after : Log) where
-  pub leaves_same : (end : PullEnd) → IsUnpulled end → PullLeaves end before after → after ≡ before
-  leaves_same (ends.Pulled count) other leaves = absurd other
-  leaves_same (ends.OtherLast last acked) other leaves = leaves
-  leaves_same (ends.Older path theirs ours) other leaves = leaves
-  leaves_same (ends.Pending count) other leaves = leaves
-  leaves_same ends.Unanswered other leaves = leaves
-  leaves_same ends.KeepFault other leaves = absurd leaves
-  leaves_same ends.Memory other leaves = leaves
+  pub leaves_same : (end : PullEnd) → PullLeaves (Ended end) before after → after ≡ before
+  leaves_same (ends.Pulled count) leaves = leaves.0
+  leaves_same (ends.OtherLast last acked) leaves = leaves
+  leaves_same (ends.Older path theirs ours) leaves = leaves
+  leaves_same (ends.Pending count) leaves = leaves
+  leaves_same ends.Unanswered leaves = leaves
+  leaves_same ends.KeepFault leaves = absurd leaves
+  leaves_same ends.Memory leaves = leaves
 
 -- a pull that changed nothing
-pub unpulled_went : (client : ℕ) (route : Route) (before after : Log) (i : Option Images) (t u : LinkTelling) (end : PullEnd) → IsUnpulled end → PullLeaves end before after
+pub unchanged_went : (client : ℕ) (route : Route) (before after : Log) (i : Option Images) (t u : LinkTelling) (end : PullEnd) → PullLeaves (Ended end) before after
     → Goes client (is_some route.surrogate) route.image (PullAsks client route before end after) before after before i i no_runner no_runner t u
     → Went client (is_some route.surrogate) route.image (PullEnds client route before end after) before after i i t u
-unpulled_went client route before after i t u end other leaves goes =
+unchanged_went client route before after i t u end leaves goes =
     (before, goes_as route.image client (is_some route.surrogate) (PullAsks client route before end after) (PullEnds client route before end after before) before after before i i no_runner no_runner t u goes (λ trace turn. kept_so trace turn))
   where
     kept_so : (trace : Trace) → PullAsks client route before end after trace → PullEnds client route before end after before trace
-    kept_so trace (inl turn) = inl (turn, sym (leaves_same before after end other leaves))
+    kept_so trace (inl turn) = inl (turn, sym (leaves_same before after end leaves))
     kept_so trace (inr broken) = inr (ap is_broken_pull broken.0, inl broken.1)
 
 -- what is kept behind a pull
 module _ (name : List ℕ) (client : ℕ) (before after : Log) (i l : Option Images) (keeps : IsKept i name client before) where
-  pub pull_keeps_same : (end : PullEnd) → IsUnpulled end → PullLeaves end before after → PullKeeps name client before end after i i
-  pull_keeps_same end other leaves =
-      subst (λ (log : Log). PullKeeps name client before end log i i) (sym (leaves_same before after end other leaves))
+  pub pull_keeps_same : (end : PullEnd) → PullLeaves (Ended end) before after → PullKeeps name client before end after i i
+  pull_keeps_same end leaves =
+      subst (λ (log : Log). PullKeeps name client before end log i i) (sym (leaves_same before after end leaves))
       (record { kept = before; changes = []; replaced_so = inl refl; keeping = keeping_none name client before i keeps; whole = λ is. refl })
 
   pub pull_keeps : (count : ℕ) (r : Result (Unit {0}) KeepError) → TakesRows before after → Told i l (KeepsLog name client after r) → PullKeeps name client before (pulled_end count r) after i l
@@ -340,18 +374,29 @@ pub older_never : (client : ℕ) (before : Log) (w v : Option World) (P : World 
     → Told w v (λ x y. InStep client before x → IsNotOlder end)
 older_never client before w v P count r end is told = not_older client before w v P end (subst IsNotOlder (sym is) (pulled_not_older count r)) told
 
--- an end that is no Pulled
-pub unpulled : (end : PullEnd) → ((count : ℕ) → end ≡ ends.Pulled count → ⊥) → IsUnpulled end
-unpulled (ends.Pulled count) other = absurd (other count refl)
-unpulled (ends.OtherLast last acked) other = tt
-unpulled (ends.Older path theirs ours) other = tt
-unpulled (ends.Pending count) other = tt
-unpulled ends.Unanswered other = tt
-unpulled ends.KeepFault other = tt
-unpulled ends.Memory other = tt
-
 -- a pull that took rows ends as such, or was broken off
 pub kept_pulled : (count : ℕ) (r : Result (Unit {0}) KeepError) → is_broken_pull (pulled_end count r) ≡ false → ((n : ℕ) → pulled_end count r ≢ ends.Pulled n) → ⊥
 kept_pulled count (Ok done) whole other = other count refl
 kept_pulled count (Err keepers.Failed) whole other = absurd (cc)
 kept_pulled count (Err keepers.Memory) whole other = absurd (cc)
+
+-- ---- what a pull writes
+
+module _ (name : List ℕ) (client : ℕ) (before after : Log) where
+  -- nothing
+  pub unchanged_writes : (i : Option Images) (end : PullEnd) → PullLeaves (Ended end) before after → PullWrites name client before end after i i
+  unchanged_writes i (ends.Pulled count) leaves = inl (leaves.1, refl)
+  unchanged_writes i (ends.OtherLast last acked) leaves = tt
+  unchanged_writes i (ends.Older path theirs ours) leaves = tt
+  unchanged_writes i (ends.Pending count) leaves = tt
+  unchanged_writes i ends.Unanswered leaves = tt
+  unchanged_writes i ends.KeepFault leaves = tt
+  unchanged_writes i ends.Memory leaves = tt
+
+  -- or the client's image
+  pub pulled_writes : (i l : Option Images) (count : ℕ) (r : Result (Unit {0}) KeepError) → (IsKeptBase before after.base → ⊥) → Told i l (KeepsNext name client after None r)
+      → PullWrites name client before (pulled_end count r) after i l
+  pulled_writes i l count (Ok done) other told =
+      inr (other, told_as i l _ (λ old new. new name ≡ Some (image (record { client = client; log = after }))) told (λ x y kept. kept.here ∙ ap Some kept.written))
+  pulled_writes i l count (Err keepers.Failed) other told = tt
+  pulled_writes i l count (Err keepers.Memory) other told = tt

@@ -16,7 +16,7 @@ use Rattle.wire_frames.specs.Parts.{part_of, effects_count, contents_count}
 use Rattle.world_rules.specs.InStep.{parts_of}
 use Rattle.client_core.specs.declared.route.Route.{Route}
 use Rattle.client_core.specs.declared.window.WindowRoom.{WindowRoom}
-use Rattle.client_core.specs.declared.window.TheConstants.{WINDOW, MAX_BESIDE}
+use Rattle.client_core.specs.Limits.{max_window, max_beside}
 use Rattle.client_core.specs.Syncing.{IsFirst, IsHeavy, FitsWindow, IsLongest, IsWindow}
 use Rattle.client_core.specs.Inside.{LeavesRoom, IsLightEntry}
 use Rattle.client_core.proofs.Firsts.{none_is}
@@ -72,14 +72,14 @@ module _ (client : ℕ) (route : Route) (pending : List Entry) where
     pub heavy : AllByRecursion (IsHeavy client route) behind
     pub first_fits : contents_size first.effects ≤ max_files
     pub effects : effects_count (parts_of (first ∷ behind)) + room.effects ≡ max_effects
-    pub content : contents_count (parts_of behind) + room.content ≡ min (max_files - contents_size first.effects) MAX_BESIDE
+    pub content : contents_count (parts_of behind) + room.content ≡ min (max_files - contents_size first.effects) max_beside
 
   -- so many are the window
   abbrev pub Found : ℕ → Type 0
   Found count = (chosen : List Entry) × IsWindow client route pending chosen × (count ≡ length chosen)
 
   -- the first entry alone
-  pub begun : (first : Entry) (room : WindowRoom) → IsFirst first pending → EffectsFit first.effects → length first.effects + room.effects ≡ max_effects → room.content ≡ min (max_files - contents_size first.effects) MAX_BESIDE
+  pub begun : (first : Entry) (room : WindowRoom) → IsFirst first pending → EffectsFit first.effects → length first.effects + room.effects ≡ max_effects → room.content ≡ min (max_files - contents_size first.effects) max_beside
       → SoFar 1 room
   begun first room is fits effects content = by pending refl is
     where
@@ -101,7 +101,7 @@ module _ (client : ℕ) (route : Route) (pending : List Entry) where
     abbrev chosen : List Entry
     chosen = so_far.first ∷ so_far.behind
 
-    fits : count ≤ WINDOW → FitsWindow client route chosen
+    fits : count ≤ max_window → FitsWindow client route chosen
     fits few = record {
       storable = record {
         some = omega arith;
@@ -114,18 +114,18 @@ module _ (client : ℕ) (route : Route) (pending : List Entry) where
       beside = omega (arith, so_far.content);
     }
 
-    found : count ≤ WINDOW → IsLongest client route chosen so_far.left → Found count
+    found : count ≤ max_window → IsLongest client route chosen so_far.left → Found count
     found few longest = (chosen, record { left = so_far.left; front = so_far.parts; fits = fits few; longest = longest }, so_far.counted)
 
     next_is : slice_get pending count ≡ slice_get so_far.left 0
     next_is = (λ i. slice_get (so_far.parts i) (so_far.counted i)) ∙ get_behind chosen so_far.left
 
     -- nothing is left
-    pub found_all : count ≤ WINDOW → None ≡ slice_get pending count → Found count
+    pub found_all : count ≤ max_window → None ≡ slice_get pending count → Found count
     found_all few none = found few (subst (IsLongest client route chosen) (sym (none_is so_far.left (none ∙ next_is))) tt)
 
     -- it is full
-    pub found_full : count ≡ WINDOW → Found count
+    pub found_full : count ≡ max_window → Found count
     found_full full = found (omega (arith, full)) (by so_far.left)
       where
         by : (left : List Entry) → IsLongest client route chosen left
@@ -133,7 +133,7 @@ module _ (client : ℕ) (route : Route) (pending : List Entry) where
         by (next ∷ left) = λ more. absurd (omega (arith, more.few, length-append chosen (next ∷ []), so_far.counted, full))
 
     -- the next entry does not join
-    module _ (entry : Entry) (few : count ≤ WINDOW) (is : Some entry ≡ slice_get pending count) where
+    module _ (entry : Entry) (few : count ≤ max_window) (is : Some entry ≡ slice_get pending count) where
       ended : (FitsWindow client route (chosen ++ entry ∷ []) → ⊥) → Found count
       ended joins = found few (by so_far.left (is ∙ next_is))
         where

@@ -41,10 +41,12 @@ use Rattle.client_core.specs.declared.route.Route.{Route}
 use Rattle.client_core.specs.declared.window.WindowRoom.{WindowRoom}
 use Rattle.client_core.specs.declared.pulling.PullEnd.{PullEnd}
 use Rattle.client_core.specs.declared.pulling.PullEnd.TheVariants.{Pulled, KeepFault, Memory}
+use Rattle.client_core.specs.declared.pulling.Pulling.{Pulling}
+use Rattle.client_core.specs.declared.pulling.Pulling.TheVariants.{Replaced, Ended}
 use Rattle.client_core.specs.declared.running.RunEnd.{RunEnd}
 use Rattle.client_core.specs.declared.running.RunEnd.TheVariants as runs
 use Rattle.client_core.specs.Syncing.{store_of, IsLight, SettlesOperation, StoreIsDue, IsWindow, Ships, BreaksShipping}
-use Rattle.client_core.specs.Pulling.{Meets}
+use Rattle.client_core.specs.Pulling.{Meets, IsKeptBase}
 use Rattle.client_core.specs.Running.{changes_of, first_clash, IsLoggable, RanEnd}
 use Rattle.client_core.specs.Journal.{next_notes, bytes_after, journal_after}
 use Rattle.client_core.specs.Keeping.{KeepsNext}
@@ -124,15 +126,28 @@ is_lower seen row = nat_lt (version_at seen row.path) row.version
 abbrev pub first_lower : Volume → Volume → Option Row
 first_lower base seen = find (is_lower seen) base
 
--- what a log makes of a snapshot, where memory may have been wanted before it changed
-abbrev pub MeetsEnds : Log → ℕ → Volume → PullEnd → Log → Type 0
-MeetsEnds before last seen end after = Meets before last seen end after ⊎ ((end ≡ Memory) × (after ≡ before))
+-- how a pull ends, if what is to be kept can be
+abbrev pub end_of : Pulling → PullEnd
+end_of (Replaced count) = Pulled count
+end_of (Ended end) = end
 
--- what a pull leaves before it keeps anything: rows of the server as base, or the log as before
-abbrev pub PullLeaves : PullEnd → Log → Log → Type 0
-PullLeaves (Pulled count) before after = (before.pending ≡ []) × TakesRows before after
-PullLeaves KeepFault before after = ⊥
-PullLeaves end before after = after ≡ before
+-- the base was replaced just where rows were taken that are not kept already
+abbrev pub ReplacesUnkept : Log → Volume → Pulling → Type 0
+ReplacesUnkept before seen (Replaced count) = IsKeptBase before seen → ⊥
+ReplacesUnkept before seen (Ended (Pulled count)) = IsKeptBase before seen
+ReplacesUnkept before seen (Ended end) = Unit {0}
+
+-- what a log makes of a snapshot, where memory may have been wanted before it changed
+abbrev pub MeetsEnds : Log → ℕ → Volume → Pulling → Log → Type 0
+MeetsEnds before last seen came after =
+    (Meets before last seen (end_of came) after × ReplacesUnkept before seen came) ⊎ ((came ≡ Ended Memory) × (after ≡ before))
+
+-- what a pull leaves before it keeps anything: other rows of the server as base, or the log as before
+abbrev pub PullLeaves : Pulling → Log → Log → Type 0
+PullLeaves (Replaced count) before after = (before.pending ≡ []) × TakesRows before after × (IsKeptBase before after.base → ⊥)
+PullLeaves (Ended (Pulled count)) before after = (after ≡ before) × IsKeptBase before after.base
+PullLeaves (Ended KeepFault) before after = ⊥
+PullLeaves (Ended end) before after = after ≡ before
 
 -- what a snapshot tells: the client's last number at the server, and the rows
 abbrev pub snapshot_of : Option Message → Option (ℕ × Volume)

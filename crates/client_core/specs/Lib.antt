@@ -7,8 +7,10 @@ pub mod Journal
 pub mod Keeping
 pub mod Laws
 pub mod Licence
+pub mod Limits
 pub mod Logging
 pub mod Noting
+pub mod Overtaken
 pub mod Pulling
 pub mod Running
 pub mod Syncing

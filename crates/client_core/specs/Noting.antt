@@ -31,9 +31,9 @@ AreRecorded number (first ∷ later) old new =
     (notes : List ClientRecord) × (later ≡ logs_behind first notes)
     × (length (client_records notes) ≤ MAX_RECORDS → new ≡ Some (image (record { client = number; log = first }) ++ client_records notes))
 
--- no pull of a trace replaced the base
-abbrev pub ReplacesNone : Trace → Type 0
-ReplacesNone trace = (count : ℕ) → IsIn (Pulled count) trace.pulls → ⊥
+-- no pull of a trace took rows
+abbrev pub TakesNoRows : Trace → Type 0
+TakesNoRows trace = (count : ℕ) → IsIn (Pulled count) trace.pulls → ⊥
 
 -- ---- from one keeping to the next
 

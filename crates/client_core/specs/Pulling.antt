@@ -5,7 +5,7 @@ use Rattle.outside.specs.declared.errors.KeepError.{KeepError}
 use Rattle.outside.specs.declared.errors.KeepError.TheVariants as keepers
 use Rattle.file_paths.specs.Path.{FilePath, path_cmp}
 use Rattle.tree_values.specs.Tree.{Volume, version_at}
-use Rattle.mod_log.specs.Log.{Log, pulled}
+use Rattle.mod_log.specs.Log.{Log, new_log, pulled}
 use Rattle.wire_frames.specs.declared.message.Message.{Message}
 use Rattle.wire_frames.specs.declared.message.Message.TheVariants.{Pull, Snapshot}
 use Rattle.world_rules.specs.declared.asking.Peer.TheVariants.{Server}
@@ -45,10 +45,15 @@ pulled_end count (Ok done) = Pulled count
 pulled_end count (Err keepers.Failed) = KeepFault
 pulled_end count (Err keepers.Memory) = Memory
 
--- how a pull ended that met a snapshot, and what it changed, with this log
-abbrev pub pull_change : PullEnd → Log → Trace
-pull_change (Pulled count) after = pulling (Pulled count) (after ∷ [])
-pull_change end after = pulling end []
+-- The rows, versions too, are those of the base, and the client is kept already: its log is no new one, of which nothing may be kept.
+abbrev pub IsKeptBase : Log → Volume → Type 0
+IsKeptBase before seen = (seen ≡ before.base) × (before ≢ new_log)
+
+-- the changes by a pull that met these rows: where it took them, and they are not kept already, they replaced the base
+abbrev pub PullChanges : Log → Volume → PullEnd → Log → List Log → Type 0
+PullChanges before seen (Pulled count) after changes =
+    (IsKeptBase before seen × (changes ≡ [])) ⊎ ((IsKeptBase before seen → ⊥) × (changes ≡ after ∷ []))
+PullChanges before seen end after changes = changes ≡ []
 
 -- the settling of the pull, and what the log makes of the snapshot that came
 pub record PullsSnapshot (client : ℕ) (route : Route) (before : Log) (end : PullEnd) (after : Log) (trace : Trace) : Type 0 where
@@ -58,7 +63,9 @@ pub record PullsSnapshot (client : ℕ) (route : Route) (before : Log) (end : Pu
   pub idle : before.pending ≡ []
   pub settling : IsSettling Server route.server (pull_of client before) (Some (Snapshot client before.acked last seen)) asks
   pub met : Meets before last seen end after
-  pub trace_is : trace ≡ followed (asking asks) (pull_change end after)
+  pub changes : List Log
+  pub changed : PullChanges before seen end after changes
+  pub trace_is : trace ≡ followed (asking asks) (pulling end changes)
 
 -- Where entries are pending, nothing is asked. Else the pull is settled with the server: eight asks failed, or a snapshot came.
 abbrev pub PullTurn : ℕ → Route → Log → PullEnd → Log → Trace → Type 0
@@ -78,7 +85,8 @@ BreaksAsking client route before after trace =
 -- it is broken off before it changed anything, or when the base was replaced and was to be kept
 abbrev pub BreaksPull : ℕ → Route → Log → Log → Trace → Type 0
 BreaksPull client route before after trace =
-    BreaksAsking client route before after trace ⊎ ((count : ℕ) × PullsSnapshot client route before (Pulled count) after trace)
+    BreaksAsking client route before after trace
+    ⊎ ((count : ℕ) × (came : PullsSnapshot client route before (Pulled count) after trace) × (IsKeptBase before came.seen → ⊥))
 
 -- whether a pull that ends so was broken off, since the keeping was refused or memory was wanted
 abbrev pub is_broken_pull : PullEnd → Bool

@@ -20,9 +20,9 @@ use Rattle.world_rules.specs.declared.asking.Peer.TheVariants.{Server, Surrogate
 use Rattle.world_rules.specs.declared.asking.Ask.{Ask}
 use Rattle.world_rules.specs.Settling.{IsSettling, BreaksSettling}
 use Rattle.client_core.specs.declared.route.Route.{Route}
-use Rattle.client_core.specs.declared.window.TheConstants.{WINDOW, MAX_BESIDE}
 use Rattle.client_core.specs.declared.syncing.SyncEnd.{SyncEnd}
 use Rattle.client_core.specs.declared.syncing.SyncEnd.TheVariants.{Synced, Stale, Unfit, Full, Unanswered, Behind, KeepFault, Memory}
+use Rattle.client_core.specs.Limits.{max_window, max_beside}
 use Rattle.client_core.specs.Trace.{Trace, nothing, followed, asking, changing}
 
 -- the store of these entries, the first of which has this number
@@ -106,9 +106,9 @@ StoreIsDue client route entry asks =
 -- the contents of those have no more bytes than a window carries beside its first entry.
 pub record FitsWindow (client : ℕ) (route : Route) (chosen : List Entry) : Type 0 where
   pub storable : IsStorable chosen
-  pub few : length chosen ≤ WINDOW
+  pub few : length chosen ≤ max_window
   pub heavy : AllByRecursion (IsHeavy client route) (drop 1 chosen)
-  pub beside : contents_count (parts_of (drop 1 chosen)) ≤ MAX_BESIDE
+  pub beside : contents_count (parts_of (drop 1 chosen)) ≤ max_beside
 
 -- no more may join them: nothing is left, or with the next one they do not fit
 abbrev pub IsLongest : ℕ → Route → List Entry → List Entry → Type 0

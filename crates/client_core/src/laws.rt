@@ -1,6 +1,7 @@
 // What the ends of syncs and pulls tell of the world, and what a sync may ask, as contracts of calls that do nothing.
 ghost use Rattle.client_core.specs.Laws.{NoSyncIsBehind, SyncEndsAreTrue, PullsMeetTheirLast, CalmSyncsAreComplete};
 ghost use Rattle.client_core.specs.Laws.{OvertakenEntriesAreNeverTaken};
+ghost use Rattle.client_core.specs.Overtaken.{OvertakenClientsStaySo, RefusedClientsAreOvertaken};
 ghost use Rattle.client_core.specs.Licence.{SyncsAreLicensed, DoneEntriesCostOperations, UnansweredStoresFailed};
 
 /// What a sync or a pull ends with is so in each world in which its answers stand, also when more came after it: a server is
@@ -25,4 +26,11 @@ pub fn syncs_are_licensed()
 /// version below the one that is served, it stays so whatever comes: it is never acknowledged, and no reply tells it to be taken.
 pub fn overtaken_entries_are_never_taken()
     ensures { OvertakenEntriesAreNeverTaken }
+{}
+
+/// Law: a client that some path is ahead of stays so until a pull brings it a version. And where an entry that it had not
+/// acknowledged is refused, some path is ahead of it from then on until then, whatever is taken later.
+pub fn overtaken_clients_stay_so()
+    ensures stay { OvertakenClientsStaySo }
+    ensures refused { RefusedClientsAreOvertaken }
 {}

@@ -12,7 +12,9 @@ mod syncing;
 mod window;
 
 pub use client::Client;
-pub use laws::{ends_are_true, overtaken_entries_are_never_taken, syncs_are_licensed};
+pub use laws::{
+    ends_are_true, overtaken_clients_stay_so, overtaken_entries_are_never_taken, syncs_are_licensed,
+};
 pub use pulling::PullEnd;
 pub use route::Route;
 pub use running::RunEnd;

@@ -10,6 +10,7 @@ ghost use Rattle.mod_log.specs.Log.{IsLog};
 ghost use Rattle.wire_frames.specs.Frame.{IsValid};
 ghost use Rattle.wire_frames.specs.Parts.{part_of};
 ghost use Rattle.world_rules.specs.InStep.{parts_of};
+ghost use Rattle.client_core.specs.Limits.{max_beside};
 ghost use Rattle.client_core.specs.Syncing.{store_alone, IsFirst, IsWindow};
 ghost use Rattle.client_core.specs.Inside.{ForEachClient, LeavesRoom, IsLightEntry, IsWindowOf};
 
@@ -79,7 +80,7 @@ struct WindowRoom {
 fn room_beside(first: &Entry) -> WindowRoom
     requires { EffectsFit first.now.effects }
     ensures effects { length first.now.effects + result.effects ≡ max_effects }
-    ensures content { result.content ≡ min (max_files - contents_size first.now.effects) MAX_BESIDE }
+    ensures content { result.content ≡ min (max_files - contents_size first.now.effects) max_beside }
 {
     let effects = first.effects.as_slice();
     let content = (MAX_FILES as u64).saturating_sub(contents(effects));

@@ -126,7 +126,7 @@ module _ (rounds : List PoolRound) (to : Peer) (address : List ℕ) (request : M
       → as_one (round_of address tries result) (filter is_answered asked.made) ≡ one
       → (pool_after result).asks ≡ (pool_world rounds v).asks ++ one
   grew_by result asked one is =
-      pool_asks rounds (round_of address tries result) asked.made v w (asks_grew (Is request) asked.made v w asked.moved.moves) asked.round.0
+      pool_asks rounds (round_of address tries result) asked.made v w (asks_grew (Is request) asked.made v w asked.moved.moves) asked.round.tries
       ∙ ap (λ asks. (pool_world rounds v).asks ++ asks) is
 
   moved_one : (result : Result (Vec ℕ Global) LinkError) (asked : HasAsked to address request tries result v w) (answer : Answer)
@@ -145,7 +145,7 @@ module _ (rounds : List PoolRound) (to : Peer) (address : List ℕ) (request : M
           arith,
           asked.moved.sent,
           asked.some answered,
-          asked.round.0,
+          asked.round.tries,
           length-filter_most asked.made,
           sendings-as (Is request) asked.made one a b v w asked.moved.moves grew,
         );
@@ -155,7 +155,7 @@ module _ (rounds : List PoolRound) (to : Peer) (address : List ℕ) (request : M
       → AsksOnce to address request (pool_world rounds v) (pool_after result) result
   asked_once (Ok frame) asked =
       let reply = asked.pools.0 in
-      let some : 1 ≤ length (filter is_answered asked.made) = omega (arith, asked.some refl, asked.round.0) in (
+      let some : 1 ≤ length (filter is_answered asked.made) = omega (arith, asked.some refl, asked.round.tries) in (
         reply,
         asked.pools.1.0,
         asked.pools.1.1,
@@ -163,7 +163,7 @@ module _ (rounds : List PoolRound) (to : Peer) (address : List ℕ) (request : M
         moved_one (Ok frame) asked (Reply reply) refl (one_ask to address request tries (filter is_answered asked.made) (Reply reply) some asked.asks asked.pools.2),
       )
   asked_once (Err LinkFailed) asked =
-      let some : 1 ≤ length (filter is_answered asked.made) = omega (arith, asked.some refl, asked.round.0) in
+      let some : 1 ≤ length (filter is_answered asked.made) = omega (arith, asked.some refl, asked.round.tries) in
       moved_one (Err LinkFailed) asked Failed refl (one_ask to address request tries (filter is_answered asked.made) Failed some asked.asks asked.pools)
   asked_once (Err LinkMemory) asked = inr (
       let grew = grew_by (Err LinkMemory) asked [] (no_ask address tries (filter is_answered asked.made)) in
@@ -182,7 +182,7 @@ module _ (rounds : List PoolRound) (to : Peer) (address : List ℕ) (request : M
     made = asked.made;
     kept = refl;
     asked = asks_grew (Is request) asked.made v w asked.moved.moves;
-    are = (filter is_answered asked.made, [], sym (append-nil (filter is_answered asked.made)), asked.round, refl);
+    are = (asked.made, [], sym (append-nil asked.made), asked.round, refl);
   }
 
 -- ---- a fresh reply of the server

@@ -1,5 +1,5 @@
 -- How tries of one request, at one address after the other, follow one another.
-use Rattle.std.proofs.Common.{◌≡◌, inl, inr, ℕ, ◌+◌, ◌≤◌, Bool, true, false, List, [], ◌∷◌, ◌++◌, length, Option, None, Some, Result, Ok, Err, Vec, refl, sym, ◌∙◌, ap, subst, arith, append_assoc, length-append}
+use Rattle.std.proofs.Common.{◌≡◌, inl, inr, ℕ, ◌+◌, ◌≤◌, Bool, true, false, cond, List, [], ◌∷◌, ◌++◌, length, Option, None, Some, Result, Ok, Err, Vec, refl, sym, ◌∙◌, ap, subst, arith, append_assoc, length-append}
 use Rattle.std.specs.Prelude.{filter, map, if◌then◌else◌}
 use Rattle.std.specs.List.{AllByRecursion}
 use Rattle.std.specs.Option.{unwrap_or, ok_or}
@@ -10,7 +10,6 @@ use Rattle.std.proofs.lemmas.List.Elements.{filter-append}
 use Rattle.std.proofs.lemmas.List.Sums.{fold-append}
 use Rattle.wire_frames.specs.declared.message.Message.{Message}
 use Rattle.wire_frames.specs.Frame.{Spells}
-use Rattle.world_rules.specs.declared.asking.Peer.{Peer}
 use Rattle.world_rules.specs.declared.asking.Peer.TheVariants.{Server, Surrogate}
 use Rattle.world_rules.specs.declared.asking.Ask.{Ask}
 use Rattle.world_rules.specs.declared.asking.Answer.{Answer}
@@ -20,9 +19,9 @@ use Rattle.world_rules.specs.declared.link.LinkError.TheVariants.{Failed as Link
 use Rattle.world_rules.specs.World.{World, Is, Moved}
 use Rattle.world_rules.specs.Asking.{ask_of, AsksOnce}
 use Rattle.world_rules.proofs.Asks.{moved_then, moved_none, moved_packets}
-use Rattle.surrogate_pool.specs.Rounds.{is_done, tells_done, better, pooled, is_answer, is_answered, AsksEach, IsPoolRound}
+use Rattle.surrogate_pool.specs.Rounds.{is_done, tells_done, better, pooled, is_answer, is_answered, AsksEach, EndsAtWant}
 use Rattle.surrogate_pool.specs.Addresses.{addresses_in}
-use Rattle.surrogate_pool.specs.Inside.{is_answer_of, round_of, IsSentReply, IsPooled, HasAsked}
+use Rattle.surrogate_pool.specs.Inside.{is_answer_of, IsSentReply, IsPooled, HasAsked}
 
 -- ---- lists
 
@@ -33,6 +32,42 @@ all_append P (x ∷ xs) ys first second = (first.0, all_append P xs ys first.1 s
 all_both : {X : Type 0} (P Q : X → Type 0) (xs : List X) → AllByRecursion P xs → AllByRecursion Q xs → AllByRecursion (λ x. P x × Q x) xs
 all_both P Q [] first second = tt
 all_both P Q (x ∷ xs) first second = ((first.0, second.0), all_both P Q xs first.1 second.1)
+
+-- ---- where memory ran out
+
+same_rest : (x y : Ask) (xs ys : List Ask) → x ∷ xs ≡ y ∷ ys → (x ≡ y) × (xs ≡ ys)
+same_rest x y xs ys is = (cc, cc)
+
+-- behind asks that were answered or failed it ends them as it ends the last ones
+ends_behind : (answered : Bool) (asks last : List Ask) → AllByRecursion (λ ask. is_answered ask ≡ true) asks → EndsAtWant answered last
+    → EndsAtWant answered (asks ++ last)
+ends_behind answered [] last all ends front back ask is broken = ends front back ask is broken
+ends_behind answered (one ∷ asks) last all ends [] back ask is broken =
+    let same : one ≡ ask = (same_rest one ask (asks ++ last) back is).0 in
+    absurd (true≢false (sym all.0 ∙ ap is_answered same ∙ broken))
+ends_behind answered (one ∷ asks) last all ends (first ∷ front) back ask is broken =
+    ends_behind answered asks last all.1 ends front back ask (same_rest one first (asks ++ last) (front ++ ask ∷ back) is).1 broken
+
+ends_none : (answered : Bool) → EndsAtWant answered []
+ends_none answered [] back ask is broken = absurd (cc)
+ends_none answered (first ∷ front) back ask is broken = absurd (cc)
+
+-- it did not run out in these
+ends_answered : (answered : Bool) (asks : List Ask) → AllByRecursion (λ ask. is_answered ask ≡ true) asks → EndsAtWant answered asks
+ends_answered answered asks all = subst (EndsAtWant answered) (append-nil asks) (ends_behind answered asks [] all (ends_none answered))
+
+-- it ran out in the last one
+ends_broken : (last : Ask) → EndsAtWant false (last ∷ [])
+ends_broken last [] back ask is broken = (sym (same_rest last ask [] back is).1, refl)
+ends_broken last (first ∷ []) back ask is broken = let rest = (same_rest last first [] (ask ∷ back) is).1 in absurd (cc)
+ends_broken last (first ∷ second ∷ front) back ask is broken =
+    let rest = (same_rest last first [] (second ∷ (front ++ ask ∷ back)) is).1 in absurd (cc)
+
+-- all of these were answered or failed
+filter_all : (asks : List Ask) → AllByRecursion (λ ask. is_answered ask ≡ true) asks → filter is_answered asks ≡ asks
+filter_all [] all = refl
+filter_all (ask ∷ asks) all =
+    ap (λ (b : Bool). cond b (ask ∷ filter is_answered asks) (filter is_answered asks)) all.0 ∙ ap (λ (more : List Ask). ask ∷ more) (filter_all asks all.1)
 
 -- ---- what was tried so far
 
@@ -46,7 +81,7 @@ IsFirst request (Some frame) answer world =
 pub record HasTried (request : Message) (tried : List (List ℕ)) (first : Option (Vec ℕ Global)) (old new : World) : Type 0 where
   pub made : List Ask
   pub moved : Moved request made old new
-  pub answered : filter is_answered made ≡ made
+  pub answered : AllByRecursion (λ ask. is_answered ask ≡ true) made
   pub at : map (λ ask. ask.address) made ≡ tried
   pub of_surrogates : AllByRecursion (λ ask. ask.to ≡ Surrogate) made
   pub of_request : AllByRecursion (λ ask. ask.request ≡ request) made
@@ -66,12 +101,6 @@ better_done (Reply first) reply done = ap (λ b. if b then Reply reply else Repl
 better_undone : (first reply : Message) → is_done reply ≡ false → better (Reply first) (Reply reply) ≡ Reply first
 better_undone first reply undone = ap (λ b. if b then Reply reply else Reply first) undone
 
-filter_one : (to : Peer) (address : List ℕ) (request : Message) (answer : Answer) → is_answer answer ≡ true
-    → filter is_answered (ask_of to address request answer ∷ []) ≡ ask_of to address request answer ∷ []
-filter_one to address request (Reply reply) e = refl
-filter_one to address request Failed e = refl
-filter_one to address request Memory e = absurd (true≢false (sym e))
-
 -- the first reply, or this one where there was none
 abbrev pub first_of : Option (Vec ℕ Global) → Vec ℕ Global → Option (Vec ℕ Global)
 first_of first frame = Some (unwrap_or first frame)
@@ -90,7 +119,7 @@ module _ (request : Message) where
   tried_none world = record {
     made = [];
     moved = moved_none request world;
-    answered = refl;
+    answered = tt;
     at = refl;
     of_surrogates = tt;
     of_request = tt;
@@ -108,9 +137,7 @@ module _ (request : Message) where
     tried_more answer next answered undone moved first_is = record {
       made = so_far.made ++ one answer ∷ [];
       moved = moved_then request so_far.made (one answer ∷ []) u v w so_far.moved moved;
-      answered = filter-append is_answered so_far.made (one answer ∷ [])
-          ∙ ap (λ asks. asks ++ filter is_answered (one answer ∷ [])) so_far.answered
-          ∙ ap (λ asks. so_far.made ++ asks) (filter_one Surrogate address request answer answered);
+      answered = all_append (λ ask. is_answered ask ≡ true) so_far.made (one answer ∷ []) so_far.answered (answered, tt);
       at = map-append (λ ask. ask.address) so_far.made (one answer ∷ []) ∙ ap (λ asks. asks ++ address ∷ []) so_far.at;
       of_surrogates = all_append (λ ask. ask.to ≡ Surrogate) so_far.made (one answer ∷ []) so_far.of_surrogates (refl, tt);
       of_request = all_append (λ ask. ask.request ≡ request) so_far.made (one answer ∷ []) so_far.of_request (refl, tt);
@@ -151,14 +178,19 @@ module _ (request : Message) where
 module _ (request : Message) (list : List ℕ) where
   asked_by : (tries : ℕ) (result : Result (Vec ℕ Global) LinkError) (u w : World) (made asked : List Ask) → Moved request made u w
       → filter is_answered made ≡ asked → AllByRecursion (λ ask. ask.to ≡ Surrogate) asked → AllByRecursion (λ ask. ask.request ≡ request) asked
-      → length asked ≡ tries → AsksEach (is_answer_of result) (addresses_in list) asked → (is_answer_of result ≡ true → 1 ≤ tries)
+      → length asked ≡ tries → AsksEach (is_answer_of result) (addresses_in list) asked → EndsAtWant (is_answer_of result) made
+      → (is_answer_of result ≡ true → 1 ≤ tries)
       → IsPooled request result (pooled asked) w → HasAsked Surrogate list request tries result u w
-  asked_by tries result u w made asked moved kept of_surrogates of_request many each some pools = record {
+  asked_by tries result u w made asked moved kept of_surrogates of_request many each ends some pools = record {
     made = made;
     moved = moved;
     asks = subst (AllByRecursion (λ ask. (ask.to ≡ Surrogate) × (ask.request ≡ request))) (sym kept)
         (all_both (λ ask. ask.to ≡ Surrogate) (λ ask. ask.request ≡ request) asked of_surrogates of_request);
-    round = subst (λ asks. IsPoolRound (round_of list tries result) asks) (sym kept) (many, inr each);
+    round = record {
+      tries = ap (λ (asks : List Ask). length asks) kept ∙ many;
+      asked = inr (subst (AsksEach (is_answer_of result) (addresses_in list)) (sym kept) each);
+      ends = ends;
+    };
     some = some;
     pools = subst (λ asks. IsPooled request result (pooled asks) w) (sym kept) pools;
   }
@@ -177,6 +209,7 @@ module _ (request : Message) (list : List ℕ) where
         passed = tt;
         ends = inl (refl, λ answered. absurd (true≢false (sym answered)));
       })
+      (ends_none false)
       (λ answered. absurd (true≢false (sym answered))) tt
 
   module _ (tried : List (List ℕ)) (first : Option (Vec ℕ Global)) (u v : World) (so_far : HasTried request tried first u v) where
@@ -206,19 +239,22 @@ module _ (request : Message) (list : List ℕ) where
 
     pub asked_all : addresses_in list ≡ tried → 1 ≤ length tried → HasAsked Surrogate list request (length tried) (result_of first) u v
     asked_all all some =
-        asked_by (length tried) (result_of first) u v so_far.made so_far.made so_far.moved so_far.answered so_far.of_surrogates so_far.of_request many
+        asked_by (length tried) (result_of first) u v so_far.made so_far.made so_far.moved (filter_all so_far.made so_far.answered)
+        so_far.of_surrogates so_far.of_request many
         (front (is_answer_of (result_of first)) [] (all ∙ sym (append-nil tried)) (λ answered. refl))
+        (ends_answered (is_answer_of (result_of first)) so_far.made so_far.answered)
         (λ answered. some) (first_pools first (pooled so_far.made) so_far.first_is)
 
     module _ (w : World) (address : List ℕ) (behind : List (List ℕ)) (all : addresses_in list ≡ tried ++ address ∷ behind) where
       unanswered : filter is_answered (so_far.made ++ ask_of Surrogate address request Memory ∷ []) ≡ so_far.made
-      unanswered = filter-append is_answered so_far.made (ask_of Surrogate address request Memory ∷ []) ∙ append-nil (filter is_answered so_far.made) ∙ so_far.answered
+      unanswered = filter-append is_answered so_far.made (ask_of Surrogate address request Memory ∷ []) ∙ append-nil (filter is_answered so_far.made)
+          ∙ filter_all so_far.made so_far.answered
 
-      broken : (made : List Ask) → Moved request made u w → filter is_answered made ≡ so_far.made
+      broken : (made : List Ask) → Moved request made u w → filter is_answered made ≡ so_far.made → EndsAtWant false made
           → HasAsked Surrogate list request (length tried) (Err LinkMemory) u w
-      broken made moved kept =
+      broken made moved kept ends =
           asked_by (length tried) (Err LinkMemory) u w made so_far.made moved kept so_far.of_surrogates so_far.of_request many
-          (front false (address ∷ behind) all (λ answered. absurd (true≢false (sym answered))))
+          (front false (address ∷ behind) all (λ answered. absurd (true≢false (sym answered)))) ends
           (λ answered. absurd (true≢false (sym answered))) tt
 
       -- memory ran out in the next one
@@ -226,9 +262,11 @@ module _ (request : Message) (list : List ℕ) where
       asked_in_part (inl moved) =
           broken (so_far.made ++ ask_of Surrogate address request Memory ∷ [])
           (moved_then request so_far.made (ask_of Surrogate address request Memory ∷ []) u v w so_far.moved moved) unanswered
+          (ends_behind false so_far.made (ask_of Surrogate address request Memory ∷ []) so_far.answered (ends_broken (ask_of Surrogate address request Memory)))
       asked_in_part (inr moved) =
           broken (so_far.made ++ []) (moved_then request so_far.made [] u v w so_far.moved moved)
-          (ap (filter is_answered) (append-nil so_far.made) ∙ so_far.answered)
+          (ap (filter is_answered) (append-nil so_far.made) ∙ filter_all so_far.made so_far.answered)
+          (ends_behind false so_far.made [] so_far.answered (ends_none false))
 
       -- the next one tells that the operation is done
       pub asked_done : (frame : Vec ℕ Global) → ((reply : Message) → Spells reply frame.items → is_done reply ≡ true)
@@ -239,9 +277,10 @@ module _ (request : Message) (list : List ℕ) where
           let made = so_far.made ++ last ∷ [] in
           let is = done reply once.1 in
           let of_surrogates = all_append (λ ask. ask.to ≡ Surrogate) so_far.made (last ∷ []) so_far.of_surrogates (refl, tt) in
+          let answered = all_append (λ ask. is_answered ask ≡ true) so_far.made (last ∷ []) so_far.answered (refl, tt) in
           asked_by (length tried + 1) (Ok frame) u w made made
           (moved_then request so_far.made (last ∷ []) u v w so_far.moved once.4)
-          (filter-append is_answered so_far.made (last ∷ []) ∙ ap (λ asks. asks ++ last ∷ []) so_far.answered)
+          (filter_all made answered)
           of_surrogates (all_append (λ ask. ask.request ≡ request) so_far.made (last ∷ []) so_far.of_request (refl, tt))
           (length-append so_far.made (last ∷ []) ∙ ap (λ n. n + 1) many)
           (record {
@@ -256,6 +295,7 @@ module _ (request : Message) (list : List ℕ) where
             passed = so_far.passed;
             ends = inr (last, refl, is);
           })
+          (ends_answered true made answered)
           (λ answered. omega arith)
           (reply, (once.1, once.2, once.3), pooled-push so_far.made last ∙ better_done (pooled so_far.made) reply is)
 
@@ -273,7 +313,11 @@ passed_on address request v w (Ok frame) once = record {
   made = ask_of Server address request (Reply once.0) ∷ [];
   moved = once.4;
   asks = ((refl, refl), tt);
-  round = (refl, inl (record { of_server = ((refl, refl), tt); once = refl }));
+  round = record {
+    tries = refl;
+    asked = inl (record { of_server = ((refl, refl), tt); once = refl });
+    ends = ends_answered true (ask_of Server address request (Reply once.0) ∷ []) (refl, tt);
+  };
   some = λ answered. omega arith;
   pools = (once.0, (once.1, once.2, once.3), refl);
 }
@@ -281,7 +325,11 @@ passed_on address request v w (Err LinkFailed) once = record {
   made = ask_of Server address request Failed ∷ [];
   moved = once;
   asks = ((refl, refl), tt);
-  round = (refl, inl (record { of_server = ((refl, refl), tt); once = refl }));
+  round = record {
+    tries = refl;
+    asked = inl (record { of_server = ((refl, refl), tt); once = refl });
+    ends = ends_answered true (ask_of Server address request Failed ∷ []) (refl, tt);
+  };
   some = λ answered. omega arith;
   pools = refl;
 }
@@ -289,7 +337,11 @@ passed_on address request v w (Err LinkMemory) (inl moved) = record {
   made = ask_of Server address request Memory ∷ [];
   moved = moved;
   asks = tt;
-  round = (refl, inl (record { of_server = tt; once = refl }));
+  round = record {
+    tries = refl;
+    asked = inl (record { of_server = tt; once = refl });
+    ends = ends_broken (ask_of Server address request Memory);
+  };
   some = λ answered. absurd (true≢false (sym answered));
   pools = tt;
 }
@@ -297,7 +349,11 @@ passed_on address request v w (Err LinkMemory) (inr moved) = record {
   made = [];
   moved = moved;
   asks = tt;
-  round = (refl, inl (record { of_server = tt; once = refl }));
+  round = record {
+    tries = refl;
+    asked = inl (record { of_server = tt; once = refl });
+    ends = ends_none false;
+  };
   some = λ answered. absurd (true≢false (sym answered));
   pools = tt;
 }

@@ -41,6 +41,6 @@ pub record HasAsked (to : Peer) (address : List ℕ) (request : Message) (tries 
   pub made : List Ask
   pub moved : Moved request made old new
   pub asks : AllByRecursion (λ ask. (ask.to ≡ to) × (ask.request ≡ request)) (filter is_answered made)
-  pub round : IsPoolRound (round_of address tries result) (filter is_answered made)
+  pub round : IsPoolRound (round_of address tries result) made
   pub some : is_answer_of result ≡ true → 1 ≤ tries
   pub pools : IsPooled request result (pooled (filter is_answered made)) new

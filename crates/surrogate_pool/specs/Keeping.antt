@@ -1,14 +1,13 @@
 -- That what a pool kept stays so over asks in a row.
-use Rattle.std.specs.Prelude.{List, [], ◌∷◌, ◌++◌, filter, Option, refl}
+use Rattle.std.specs.Prelude.{List, [], ◌∷◌, ◌++◌, Option, refl}
 use Rattle.std.proofs.Common.{◌∙◌, ap, sym, subst, append_assoc}
 use Rattle.std.proofs.lemmas.List.{append-nil}
-use Rattle.std.proofs.lemmas.List.Elements.{filter-append}
 use Rattle.outside.specs.Outside.{Told}
 use Rattle.world_rules.specs.declared.asking.Ask.{Ask}
 use Rattle.world_rules.specs.World.{World}
 use Rattle.world_rules.proofs.Asks.{told_then, told_start}
 use Rattle.surrogate_pool.specs.declared.pool.PoolRound.{PoolRound}
-use Rattle.surrogate_pool.specs.Rounds.{is_answered, AreRounds, AddsRounds}
+use Rattle.surrogate_pool.specs.Rounds.{AreRounds, AddsRounds}
 
 rounds_append : (m n : List PoolRound) (first second : List Ask) → AreRounds m first → AreRounds n second
     → AreRounds (m ++ n) (first ++ second)
@@ -36,8 +35,7 @@ adds_both a b c x y z first second = record {
   made = first.made ++ second.made;
   kept = second.kept ∙ ap (λ rounds. rounds ++ second.rounds) first.kept ∙ append_assoc a first.rounds second.rounds;
   asked = second.asked ∙ ap (λ asks. asks ++ second.made) first.asked ∙ append_assoc x.asks first.made second.made;
-  are = subst (AreRounds (first.rounds ++ second.rounds)) (sym (filter-append is_answered first.made second.made))
-      (rounds_append first.rounds second.rounds (filter is_answered first.made) (filter is_answered second.made) first.are second.are);
+  are = rounds_append first.rounds second.rounds first.made second.made first.are second.are;
 }
 
 pub adds_then : (a b c : List PoolRound) (x y z : Option World) → Told x y (AddsRounds a b) → Told y z (AddsRounds b c)

@@ -114,10 +114,17 @@ pub record PassesOn (answered : Bool) (address : List ℕ) (asks : List Ask) : T
   pub of_server : AllByRecursion (λ ask. (ask.to ≡ Server) × (ask.address ≡ address)) asks
   pub once : length asks ≡ (if answered then 1 else 0)
 
--- what a pool asked in one round
-abbrev pub IsPoolRound : PoolRound → List Ask → Type 0
-IsPoolRound round asks =
-    (length asks ≡ round.tries) × (PassesOn round.answered round.address asks ⊎ AsksEach round.answered (addresses_in round.address) asks)
+-- behind an ask in which memory ran out none was made, and then there was no answer
+abbrev pub EndsAtWant : Bool → List Ask → Type 0
+EndsAtWant answered made = (front back : List Ask) (ask : Ask) → made ≡ front ++ ask ∷ back → is_answered ask ≡ false
+    → (back ≡ []) × (answered ≡ false)
+
+-- the asks that a pool made in one round: of so many that were answered or failed it made its answer, and want of memory ended them
+pub record IsPoolRound (round : PoolRound) (made : List Ask) : Type 0 where
+  pub tries : length (filter is_answered made) ≡ round.tries
+  pub asked : PassesOn round.answered round.address (filter is_answered made)
+      ⊎ AsksEach round.answered (addresses_in round.address) (filter is_answered made)
+  pub ends : EndsAtWant round.answered made
 
 -- and in these, one after the other
 abbrev pub AreRounds : List PoolRound → List Ask → Type 0
@@ -125,10 +132,14 @@ AreRounds [] asks = asks ≡ []
 AreRounds (round ∷ rounds) asks =
     (first : List Ask) × (rest : List Ask) × (asks ≡ first ++ rest) × IsPoolRound round first × AreRounds rounds rest
 
+-- one ask of a pool is one round, or none where there was no room to keep it
+abbrev pub AddsOne : List PoolRound → List PoolRound → Type 0
+AddsOne before after = (after ≡ before) ⊎ ((round : PoolRound) × (after ≡ before ++ round ∷ []))
+
 -- between two moments a pool kept these rounds more, and its link's asks grew by theirs
 pub record AddsRounds (before after : List PoolRound) (old new : World) : Type 0 where
   pub rounds : List PoolRound
   pub made : List Ask
   pub kept : after ≡ before ++ rounds
   pub asked : new.asks ≡ old.asks ++ made
-  pub are : AreRounds rounds (filter is_answered made)
+  pub are : AreRounds rounds made

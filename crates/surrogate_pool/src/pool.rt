@@ -90,7 +90,7 @@ impl<L: Link> Link for Pool<L> {
     ghost use Rattle.wire_frames.specs.Frame.{Spells};
     ghost use Rattle.world_rules.specs.Telling.{ToldWorlds, IsCalm};
     ghost use Rattle.world_rules.specs.Asking.{IsRequest, IsReplyTo, AsksOnce, IsDirect};
-    ghost use Rattle.surrogate_pool.specs.Rounds.{pool_tells, AddsRounds};
+    ghost use Rattle.surrogate_pool.specs.Rounds.{pool_tells, AddsOne, AddsRounds};
     ghost use Rattle.surrogate_pool.specs.Keeping.{adds_none, adds_then};
 
     ghost tells = { λ pool. pool_tells pool.rounds.items (L.tells pool.link) };
@@ -124,6 +124,7 @@ impl<L: Link> Link for Pool<L> {
         ensures cause { HasCause LinkError.Failed (L.tells self.old.link).troubles (L.tells self.new.link).troubles result }
         ensures kept { L.keeps self.old.link self.new.link
             × ToldWorlds (L.tells self.old.link) (L.tells self.new.link) (AddsRounds self.old.rounds.items self.new.rounds.items) }
+        ensures once { AddsOne self.old.rounds.items self.new.rounds.items }
     {
         match self.begin(address) {
             Ok(()) => {}

@@ -11,6 +11,7 @@ use Rattle.world_rules.proofs.Settled.{settled_echoes, settled_troubles}
 use Rattle.client_core.specs.declared.pulling.PullEnd.TheVariants.{Unanswered, Memory}
 use Rattle.client_core.specs.Pulling.{pull_of}
 use Rattle.client_core.specs.Honest.{IsNotOlder}
+use Rattle.client_core.specs.Inside.{end_of}
 use Rattle.client_core.proofs.Pulls.{none_pending, some_pending, pull_valid, pull_waits, pull_unanswered, pull_breaks, pull_met, pull_cause, pull_leaves, never_older, not_older, found_snapshot, found_none}
 use Rattle.client_core.proofs.pulling.pull_log.Goals as goal
 
@@ -112,7 +113,7 @@ returns-in-Some-clause-fresh g c = λ calm.
     let end = c.take_snapshot.result in
     let after = c.take_snapshot.new.log in
     let is : c.in-Ok.reply ≡ Some (Snapshot client before.acked last seen) = found_snapshot client before.acked c.in-Ok.reply last seen told c.in-Some.ensures in
-    told_as t.world u.world (λ x y. IfSome c.in-Ok.reply (IsFreshReply (Pull client c.acked.result) x y)) (λ x y. InStep client before x → IsNotOlder end)
+    told_as t.world u.world (λ x y. IfSome c.in-Ok.reply (IsFreshReply (Pull client c.acked.result) x y)) (λ x y. InStep client before x → IsNotOlder (end_of end))
     (c.in-Ok.ensures.direct calm)
     (λ x y fresh now. never_older client before none last seen x y
     (subst (λ (r : Option Message). IfSome r (IsFreshReply (pull_of client before) x y)) is (subst (λ (n : ℕ). IfSome c.in-Ok.reply (IsFreshReply (Pull client n) x y)) c.acked.ensures.acked fresh))

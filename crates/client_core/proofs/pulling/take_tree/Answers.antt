@@ -16,4 +16,4 @@ returns-in-None c =
     let log = c.args.log.now in
     let found : first_lower log.base c.args.seen ≡ None =
     sym (c.in-None.ensures ∙ ap (λ (base : Volume). first_lower base c.args.seen) (c.as_slice.ensures.items ∙ c.requires.base)) in
-    meets_newer log c.replace.new.self c.args.seen c.count-count.result found c.count-count.ensures.count c.replace.ensures.pulled
+    meets_newer log c.replace.new.self c.args.seen c.count-count.result c.requires.other found c.count-count.ensures.count c.replace.ensures.pulled

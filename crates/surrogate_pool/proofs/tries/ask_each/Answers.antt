@@ -7,12 +7,17 @@ use Rattle.world_rules.specs.declared.asking.Peer.TheVariants.{Surrogate}
 use Rattle.world_rules.specs.declared.link.LinkError.{LinkError}
 use Rattle.world_rules.specs.Telling.{LinkTelling, ToldWorlds}
 use Rattle.world_rules.specs.Asking.{IsReplyTo}
+use Rattle.world_rules.proofs.Asks.{told_start}
 use Rattle.surrogate_pool.specs.Addresses.{addresses_in}
 use Rattle.surrogate_pool.specs.Inside.{HasAsked}
-use Rattle.surrogate_pool.proofs.Trying.{HasTried, first_of, result_of}
+use Rattle.surrogate_pool.proofs.Trying.{HasTried, first_of, result_of, asked_nothing}
 use Rattle.surrogate_pool.proofs.Turning.{text_of, no_first, first_replies, some_address, told_all, told_done, told_broken, told_failed, told_reply}
 use Rattle.surrogate_pool.proofs.tries.ask_each.Goals as goal
 use Rattle.surrogate_pool.proofs.tries.ask_each.Goals.{in-Ok-ask+else-is_done, in-Err-Failed}
+
+pub returns-in_default-clause-asked : goal.returns-in_default-clause-asked
+returns-in_default-clause-asked g c = λ request spells.
+    told_start (g.L.Link.tells c.args.link.now).world _ (asked_nothing request c.args.address.now)
 
 pub returns-then-is_done-clause-asked : goal.returns-then-is_done-clause-asked
 returns-then-is_done-clause-asked g c = λ request spells.

@@ -1,4 +1,4 @@
-use Rattle.std.proofs.Common.{sym, subst}
+use Rattle.std.proofs.Common.{inl, inr, sym, subst}
 use Rattle.surrogate_pool.proofs.Pooling.{told_once, told_rounds, told_directly, told_nothing}
 use Rattle.surrogate_pool.specs.Keeping.{adds_none}
 use Rattle.surrogate_pool.proofs.pool.PoolLink.ask.Goals as goal
@@ -14,7 +14,13 @@ pub returns-in-Err-clause-kept : goal.returns-in-Err-clause-kept
 returns-in-Err-clause-kept g c = rw (c.in-Err.ensures.err, c.in-Err.ensures.link)
     (g.met.L.Link.keeps_none c.args.self.now.link, adds_none c.args.self.now.rounds.items (g.L.Link.tells c.args.self.now.link).world)
 
+pub returns-in-Err-clause-once : goal.returns-in-Err-clause-once
+returns-in-Err-clause-once g c = inl c.in-Err.ensures.err
+
 -- ---- the asks
+
+pub returns-clause-once : goal.returns-clause-once
+returns-clause-once g c = inr (_, c.note.ensures.rounds _ _ c.in-Ok.ensures.ok)
 
 pub returns-clause-world : goal.returns-clause-world
 returns-clause-world g c = λ request spells.
