@@ -61,7 +61,7 @@ numbered_passes n small = by (n == 0) refl
         let numeral = (decimal_is_IsNumeral n (omega (arith, small))).0 in
         number_passes (decimal n) numeral.1 numeral.0 (first_decimal n some (omega (arith, small)))
 
-le_true : (m n : ℕ) → m ≤ n → nat_le m n ≡ true
+pub le_true : (m n : ℕ) → m ≤ n → nat_le m n ≡ true
 le_true m n le = grind arith
 
 -- the front of a print, its digits

@@ -1,5 +1,4 @@
-pub mod Found
+pub mod Judging
 pub mod Names
-pub mod Starting
-pub mod Variables
 pub mod Waiting
+pub mod Works

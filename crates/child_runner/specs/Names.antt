@@ -14,6 +14,14 @@ front = 114 ∷ 117 ∷ 110 ∷ 45 ∷ []
 abbrev pub lock_end : List ℕ
 lock_end = 46 ∷ 108 ∷ 111 ∷ 99 ∷ 107 ∷ []
 
+-- `left-`
+abbrev pub left_front : List ℕ
+left_front = 108 ∷ 101 ∷ 102 ∷ 116 ∷ 45 ∷ []
+
+-- the name of a folder that waits for its removal
+abbrev pub left_name : ℕ → List ℕ
+left_name number = left_front ++ decimal number
+
 -- how many bytes of its job's print stand in the name of a run
 abbrev pub named_bytes : ℕ
 named_bytes = 8
@@ -54,3 +62,7 @@ is_print_and_number rest = nat_le (2 * named_bytes) (length rest)
 -- whether the folder of a run may have this name
 abbrev pub is_folder_name : List ℕ → Bool
 is_folder_name name = nat_le 4 (length name) && (bytes_eq (take 4 name) front && is_print_and_number (drop 4 name))
+
+-- whether a folder that waits for its removal may have this name
+abbrev pub is_left_name : List ℕ → Bool
+is_left_name name = nat_le 5 (length name) && bytes_eq (take 5 name) left_front

@@ -1,26 +1,6 @@
--- How long what is done, and when: in nanoseconds.
-use Rattle.std.specs.Prelude.{ℕ, ◌*◌, ◌/◌, ◌==◌, min, max, Option, Some, None, if◌then◌else◌}
+-- How long a client reads: in nanoseconds.
+use Rattle.std.specs.Prelude.{ℕ}
 
--- how long a client reads what a program left, behind its end: a minute
+-- what a program left, behind its end: a minute
 abbrev pub reading_nanos : ℕ
 reading_nanos = 60_000_000_000
-
--- when all inputs of a run were changed, since 1970: 1 January 2000, 00:00 UTC
-abbrev pub input_nanos : ℕ
-input_nanos = 946_684_800 * 1_000_000_000
-
--- the shortest and the longest pause between two looks at a program
-abbrev pub shortest_pause : ℕ
-shortest_pause = 1_000_000
-
-abbrev pub longest_pause : ℕ
-longest_pause = 20_000_000
-
--- the pause behind a look at a program that has run for so long: an eighth of that
-abbrev pub pause_behind : ℕ → ℕ
-pause_behind spent = min (max (spent / 8) shortest_pause) longest_pause
-
--- the same where only so much time may be left; none where no time is left
-abbrev pub next_pause : ℕ → Option ℕ → Option ℕ
-next_pause spent None = Some (pause_behind spent)
-next_pause spent (Some left) = if left == 0 then None else Some (min left (pause_behind spent))

@@ -2,31 +2,27 @@
 //! run that failed is counted. No link is followed.
 #![tactic(auto)]
 
+mod beside;
 mod clearing;
-mod found;
-mod groups;
-mod helping;
+mod judging;
 mod limits;
 mod locks;
 mod names;
-mod opening;
-mod passing;
-mod pipes;
 mod places;
-mod reading;
 mod removing;
 mod runner;
-mod starting;
 mod texts;
 mod trouble;
-mod waiting;
-mod writing;
+mod works;
 
-pub use groups::LEADER;
+pub use beside::MAX_BESIDE;
+pub use folder_reading::INPUT_SECONDS;
+pub use judging::JUDGED_BYTES;
 pub use limits::READING_SECONDS;
 pub use locks::LOCK_RIGHTS;
-pub use names::{MAX_TRIED, NAMED_BYTES, names_are_known};
+pub use names::{MAX_TRIED, NAMED_BYTES, left_names_are_no_run_s, names_are_known};
 pub use places::FOLDER_RIGHTS;
-pub use removing::MAX_OPENED;
+pub use programs_apart::{ApartWish, LEADER, WishError};
+pub use removing::{MAX_LEFT, REMOVAL_SECONDS};
 pub use runner::ChildRunner;
-pub use writing::INPUT_SECONDS;
+pub use works::WORK_RIGHTS;

@@ -1,8 +1,9 @@
-// The lock that a run holds while it lasts.
+// The lock that a run holds while it lasts, and a removal while it goes on.
 use crate::names::lock_place;
 use crate::trouble::{RunTrouble, answered, refused};
+use folder_reading::are_same;
 use std::alloc::AllocGlobal;
-use std::fs::{self, File, Files, Metadata, TryLockError};
+use std::fs::{self, File, Files, TryLockError};
 use std::io::ErrorKind;
 use std::os::unix::fs::{MetadataExt, OpenOptionsExt};
 
@@ -20,13 +21,14 @@ pub(crate) struct Lock {
 }
 
 impl Lock {
-    /// Takes the lock beside the folder; none where another holds it, or what is no lock stands there.
+    /// Takes the lock of this user beside the folder; none where it is held, or what is no lock or another user's stands there.
     pub(crate) fn take<R: Files<File = File> + AllocGlobal>(
         host: &R,
         folder: &str,
+        user: u32,
     ) -> Result<Option<Lock>, RunTrouble> {
         let place = lock_place(host.alloc(), folder)?;
-        match take_at(host, place.as_str()) {
+        match take_at(host, place.as_str(), user) {
             Ok(Some(file)) => Ok(Some(Lock { place, file })),
             Ok(None) => Ok(None),
             Err(error) => {
@@ -47,6 +49,11 @@ impl Lock {
         removed
     }
 
+    /// The place of its file, and the file. The lock lasts as long as anybody has that open.
+    pub(crate) fn into_parts(self) -> (String, File) {
+        (self.place, self.file)
+    }
+
     /// The number of the device that it stands on.
     pub(crate) fn device<R: AllocGlobal>(&self, host: &R) -> Result<u64, RunTrouble> {
         let seen = self.file.metadata();
@@ -59,9 +66,10 @@ impl Lock {
 fn take_at<R: Files<File = File> + AllocGlobal>(
     host: &R,
     place: &str,
+    user: u32,
 ) -> Result<Option<File>, RunTrouble> {
     for _ in 0..MAX_OPENED {
-        let Some(file) = open_at(host, place)? else {
+        let Some(file) = open_at(host, place, user)? else {
             return Ok(None);
         };
         if !is_locked(host, place, &file)? {
@@ -83,10 +91,11 @@ fn is_locked<R: AllocGlobal>(host: &R, place: &str, file: &File) -> Result<bool,
     }
 }
 
-/// Opens the file of a lock, which is made where nothing stands there; none where what stands there is another's, or no file.
+/// Opens the file of a lock, which is made where nothing stands there; none where what stands there is another user's, or no file.
 fn open_at<R: Files<File = File> + AllocGlobal>(
     host: &R,
     place: &str,
+    user: u32,
 ) -> Result<Option<File>, RunTrouble> {
     for _ in 0..MAX_OPENED {
         let made = File::options()
@@ -103,13 +112,25 @@ fn open_at<R: Files<File = File> + AllocGlobal>(
             return Ok(None);
         }
         match File::options().read(true).write(true).open(host, place) {
-            Ok(file) => return Ok(Some(file)),
+            Ok(file) => return Ok(own_file(file, user)),
             Err(error) if error.kind() == ErrorKind::NotFound => {}
             Err(error) if error.kind() == ErrorKind::PermissionDenied => return Ok(None),
             Err(error) => return Err(refused(host.alloc(), "open", place, error)),
         }
     }
     Ok(None)
+}
+
+/// The file where it is this user's: another user's could be taken from its place while it is locked.
+fn own_file(file: File, user: u32) -> Option<File> {
+    match file.metadata() {
+        Ok(seen) if seen.uid() == user => Some(file),
+        Ok(_) => None,
+        Err(error) => {
+            drop(error);
+            None
+        }
+    }
 }
 
 /// Whether a file stands there, or nothing any more.
@@ -126,9 +147,4 @@ fn is_there<R: Files>(host: &R, place: &str, file: &File) -> bool {
         (Ok(opened), Ok(seen)) => are_same(&opened, &seen),
         (Ok(_) | Err(_), Ok(_) | Err(_)) => false,
     }
-}
-
-/// Whether both are of one thing.
-pub(crate) fn are_same(one: &Metadata, other: &Metadata) -> bool {
-    one.dev() == other.dev() && one.ino() == other.ino()
 }

@@ -18,6 +18,9 @@ pub const NAMED_BYTES: usize = 8;
 /// How many digits those are.
 const NAMED_DIGITS: usize = 2 * NAMED_BYTES;
 
+/// What the name of a folder that waits for its removal begins with.
+const LEFT: &str = "left-";
+
 /// What stands behind the name of a folder in the name of its lock.
 const LOCK: &str = ".lock";
 
@@ -40,6 +43,14 @@ pub(crate) fn folder_name(
 pub fn names_are_known()
     ensures { (print : List ℕ) (number : ℕ) → AllByRecursion (λ b. b < 256) print → names.named_bytes ≤ length print → number < 2 ^ 32
         → names.is_folder_name (names.folder_name print number) ≡ true }
+{}
+
+/// A folder that waits for its removal has a name of no run, and a run has no name of such a folder.
+#[tactic(auto, using(crate::proofs::Left::left_is_no_run, crate::proofs::Left::run_is_not_left))]
+pub fn left_names_are_no_run_s()
+    ensures left { (number : ℕ) → names.is_folder_name (names.left_name number) ≡ false }
+    ensures known { (number : ℕ) → names.is_left_name (names.left_name number) ≡ true }
+    ensures runs { (print : List ℕ) (number : ℕ) → names.is_left_name (names.folder_name print number) ≡ false }
 {}
 
 /// Adds the digits of the bytes.
@@ -79,7 +90,17 @@ fn push_number(name: &mut Vec<u8>, number: u32) -> Result<(), AllocError>
     name.extend_from_slice(text.as_bytes())
 }
 
-/// The place of the lock beside a run's folder.
+/// The name of a folder that waits for its removal.
+pub(crate) fn left_name(alloc: Global, number: u32) -> Result<String, AllocError>
+    ensures { IfOk result (λ name. string_bytes name ≡ names.left_name number) }
+{
+    let mut name = String::from_str(alloc, LEFT)?;
+    let text = number.to_string(alloc)?;
+    name.push_str(text.as_str())?;
+    Ok(name)
+}
+
+/// The place of the lock beside a folder.
 pub(crate) fn lock_place(alloc: Global, folder: &str) -> Result<String, AllocError>
     ensures { IfOk result (λ place. string_bytes place ≡ folder.now ++ names.lock_end) }
 {

@@ -1,9 +1,0 @@
-use Rattle.std.specs.Prelude.{◌≡◌, ◌++◌, take}
-use Rattle.std.specs.Process.{command_program, command_args}
-use Rattle.child_runner.proofs.starting.add_words.Given as goal
-
-abbrev pub invariant-loop-word : goal.invariant-loop-word
-invariant-loop-word l = record {
-  program : command_program l.start ≡ command_program l.fn.start;
-  words : command_args l.start ≡ command_args l.fn.start ++ take l.word-index l.words;
-}
