@@ -2,4 +2,5 @@ mod Framing
 mod Moving
 mod Pieces
 mod Sending
+mod Staying
 mod Turns

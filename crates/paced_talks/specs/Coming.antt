@@ -1,6 +1,6 @@
 -- Connections whose frames come in, side by side.
 use Rattle.std.specs.Prelude.{◌≡◌, ◌⊎◌, ℕ, ◌+◌, ◌<◌, Bool, true, false, ◌==◌, ◌&&◌}
-use Rattle.std.specs.Prelude.{◌||◌, if◌then◌else◌, List, [], ◌∷◌, ◌++◌, length, sum_by, remove}
+use Rattle.std.specs.Prelude.{◌||◌, if◌then◌else◌, List, [], ◌∷◌, ◌++◌, length, sum_by, filter, remove}
 use Rattle.std.specs.Prelude.{nat_lt, nat_le, slice_index_or}
 use Rattle.std.specs.List.{IsFirstBest}
 use Rattle.std.specs.Time.{instant_nanos}
@@ -42,6 +42,16 @@ abbrev pub HasLetIn : {S : Type 0} {R : _} → List (Asking S R) → S → Insta
 HasLetIn {S} {R} old stream now new = (kept : List (Asking S R)) × (talk : Asking S R)
     × (((length old < most_asking) × (kept ≡ old)) ⊎ ((length old ≡ most_asking) × LetsIdlestGo old kept))
     × (new ≡ kept ++ talk ∷ []) × (talk.stream ≡ stream) × (talk.window ≡ of_request now)
+
+-- these stand in a list in their order, whatever stands between them
+abbrev pub StandIn : {X : Type 0} → List X → List X → Type 0
+StandIn [] list = Unit {0}
+StandIn (x ∷ xs) [] = ⊥
+StandIn (x ∷ xs) (y ∷ list) = ((y ≡ x) × StandIn xs list) ⊎ StandIn (x ∷ xs) list
+
+-- each connection whose frame was whole is there as it was, in the same order
+abbrev pub KeepsWhole : {S : Type 0} {R : _} → List (Asking S R) → List (Asking S R) → Type 0
+KeepsWhole old new = StandIn (filter (λ talk. talk.is_whole) old) new
 
 -- at this place is the first one whose frame is whole
 abbrev pub IsFirstWhole : {S : Type 0} {R : _} → List (Asking S R) → ℕ → Type 0

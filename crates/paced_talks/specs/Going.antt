@@ -6,7 +6,8 @@ use Rattle.std.specs.Time.{instant_nanos}
 use Rattle.std.specs.declared.time.Instant.{Instant}
 use Rattle.paced_talks.specs.declared.answering.Answering.{Answering}
 use Rattle.paced_talks.specs.Talks.{most_answering, most_held}
-use Rattle.paced_talks.specs.Window.{fresh}
+use Rattle.paced_talks.specs.declared.window.Window.{Window}
+use Rattle.paced_talks.specs.Window.{sending}
 
 -- how many bytes these hold together
 abbrev pub bytes_of : {S : Type 0} {W : _} → List (Answering S W) → ℕ
@@ -24,12 +25,13 @@ IsIdlest talks place = IsFirstBest is_idler talks (length talks) place
 abbrev pub HasRoom : {S : Type 0} {W : _} → ℕ → List (Answering S W) → Type 0
 HasRoom bytes talks = (length talks < most_answering) × (bytes_of talks + bytes ≤ most_held)
 
--- it has this rest to send, and its time begins now
-abbrev pub IsAtStart : {S : Type 0} {W : _} → Answering S W → S → List ℕ → Instant → Type 0
-IsAtStart talk stream rest now = (talk.stream ≡ stream) × (talk.rest.items ≡ rest) × (talk.sent ≡ 0) × (talk.window ≡ fresh now)
+-- it has this rest to send, and begins to in this window
+abbrev pub IsAtStart : {S : Type 0} {W : _} → Answering S W → S → List ℕ → Window → Type 0
+IsAtStart talk stream rest window = (talk.stream ≡ stream) × (talk.rest.items ≡ rest) × (talk.sent ≡ 0) × (talk.window ≡ window)
 
--- so many bytes of the answer stand behind what the stream held, and the last of the connections has the rest of it to send
+-- so many bytes of the answer stand behind what the stream held, and the last of the connections has the rest of it to send, in
+-- windows for the whole answer
 abbrev pub IsQueued : {S : Type 0} {W : _} → (S → Option (List ℕ)) → S → List ℕ → Instant → List (Answering S W) → Type 0
 IsQueued {S} {W} contents stream answer now talks = (kept : List (Answering S W)) × (talk : Answering S W) × (begun : S) × (sent : ℕ)
-    × (talks ≡ kept ++ talk ∷ []) × IsAtStart talk begun (drop sent answer) now
+    × (talks ≡ kept ++ talk ∷ []) × IsAtStart talk begun (drop sent answer) (sending (length answer) now)
     × Appends (contents stream) (contents begun) (take sent answer)

@@ -2,7 +2,6 @@
 ghost use Rattle.std.specs.Prelude.{◌≡◌, ◌≤◌, ◌-◌, vec_len, length, take, drop, OnOk, IfOk};
 ghost use Rattle.std.specs.Io.KnownBytes.{Appends};
 ghost use Rattle.paced_talks.specs.Talks.{HasMoved, MovedAt};
-ghost use Rattle.paced_talks.specs.Window.{fresh};
 
 use crate::step::{Progress, passing};
 use crate::window::{Window, later};
@@ -23,7 +22,7 @@ pub(crate) struct Answering<S: Write + Drop> {
 }
 
 impl<S: Write + Drop> Answering<S> {
-    /// A connection with the rest of an answer, which it begins to send at this moment.
+    /// A connection with the rest of an answer, which it sends within this window and those that follow.
     ///
     /// # Errors
     ///
@@ -32,12 +31,12 @@ impl<S: Write + Drop> Answering<S> {
         alloc: Global,
         stream: S,
         rest: &[u8],
-        now: Instant,
+        window: Window,
     ) -> Result<Answering<S>, AllocError>
         ensures stream { IfOk result (λ talk. talk.stream ≡ stream) }
         ensures rest { IfOk result (λ talk. (talk.rest.items ≡ rest.now) × (talk.sent ≡ 0)) }
-        ensures window { IfOk result (λ talk. talk.window ≡ fresh now) }
-        ensures moved_at { IfOk result (λ talk. talk.moved_at ≡ now) }
+        ensures window { IfOk result (λ talk. talk.window ≡ window) }
+        ensures moved_at { IfOk result (λ talk. talk.moved_at ≡ window.start) }
     {
         let mut copy = Vec::new(alloc);
         copy.extend_from_slice(rest)?;
@@ -45,8 +44,8 @@ impl<S: Write + Drop> Answering<S> {
             stream,
             rest: copy,
             sent: 0,
-            window: Window::new(now),
-            moved_at: now,
+            window,
+            moved_at: window.start,
         })
     }
 

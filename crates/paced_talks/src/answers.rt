@@ -7,6 +7,7 @@ ghost use Rattle.paced_talks.specs.Going.{bytes_of, is_idler, IsIdlest, HasRoom,
 
 use crate::answering::{Answering, send_front};
 use crate::step::{Progress, sooner};
+use crate::window::Window;
 use std::alloc::{AllocError, Global};
 use std::io;
 use std::io::{ErrorKind, Write};
@@ -68,7 +69,7 @@ impl<S: Write + Drop> Answers<S> {
         if sent == answer.len() {
             return Ok(Some(stream));
         }
-        self.admit(stream, &answer[sent..], now)?;
+        self.admit(stream, &answer[sent..], Window::sending(now, answer.len()))?;
         Ok(None)
     }
 
@@ -108,20 +109,22 @@ impl<S: Write + Drop> Answers<S> {
         }
     }
 
-    /// Has the rest of an answer go out, behind the others. Where there is no place or no room for it the idlest go.
+    /// Has the rest of an answer go out within this window and those that follow, behind the others. Where there is no place or no room
+    /// for it the idlest go.
     ///
     /// # Errors
     ///
     /// Want of memory, and a rest over the limit: it is closed then.
-    fn admit(&mut self, stream: S, rest: &[u8], now: Instant) -> io::Result<()>
-        ensures { OnOk result ((kept : _) × (talk : _) × (self.new.talks.items ≡ kept ++ talk ∷ []) × IsAtStart talk stream rest.now now) }
+    fn admit(&mut self, stream: S, rest: &[u8], window: Window) -> io::Result<()>
+        ensures { OnOk result ((kept : _) × (talk : _) × (self.new.talks.items ≡ kept ++ talk ∷ [])
+            × IsAtStart talk stream rest.now window) }
     {
         if rest.len() > MOST_HELD {
             drop(stream);
             return Err(io::Error::from(ErrorKind::FileTooLarge));
         }
         self.make_room(rest.len());
-        let talk = Answering::new(self.alloc, stream, rest, now)?;
+        let talk = Answering::new(self.alloc, stream, rest, window)?;
         self.talks.push(talk)?;
         self.bytes += rest.len();
         Ok(())

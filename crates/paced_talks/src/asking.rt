@@ -1,5 +1,5 @@
 // A connection whose frame comes in.
-ghost use Rattle.std.specs.Prelude.{◌≡◌, ◌≤◌, ◌<◌, ◌+◌, [], length, true, nat_le, OnOk};
+ghost use Rattle.std.specs.Prelude.{◌≡◌, ◌≤◌, ◌<◌, ◌+◌, [], length, true, false, nat_le, Ok, OnOk, OnErr};
 ghost use Rattle.std.specs.Io.KnownBytes.{Keeps, prepend_known};
 ghost use Rattle.paced_talks.specs.Frames.{block_bytes};
 ghost use Rattle.paced_talks.specs.Talks.{IsBegun, IsFirstFrame, HasMoved, MovedAt};
@@ -11,12 +11,14 @@ use crate::window::{HEAD_BYTES, Window, later};
 use std::alloc::Global;
 use std::io;
 use std::io::Read;
+use std::net::SocketAddr;
 use std::time::{Duration, Instant};
 
 /// A connection whose frame comes in.
 #[derive(Drop)]
 pub(crate) struct Asking<S: Read + Drop> {
     pub(crate) stream: S,
+    pub(crate) peer: SocketAddr,
     pub(crate) frame: Vec<u8>,
     pub(crate) window: Window,
     pub(crate) moved_at: Instant,
@@ -26,15 +28,17 @@ pub(crate) struct Asking<S: Read + Drop> {
 }
 
 impl<S: Read + Drop> Asking<S> {
-    /// A connection that was taken at this moment.
-    pub(crate) fn new(alloc: Global, stream: S, now: Instant) -> Asking<S>
+    /// A connection of this peer that was taken at this moment.
+    pub(crate) fn new(alloc: Global, stream: S, peer: SocketAddr, now: Instant) -> Asking<S>
         ensures frame { result.frame.items ≡ [] }
         ensures stream { result.stream ≡ stream }
+        ensures peer { result.peer ≡ peer }
         ensures window { result.window ≡ of_request now }
         ensures moved_at { result.moved_at ≡ now }
     {
         Asking {
             stream,
+            peer,
             frame: Vec::new(alloc),
             window: Window::of_request(now),
             moved_at: now,
@@ -56,9 +60,14 @@ impl<S: Read + Drop> Asking<S> {
         ensures moved_at { OnOk result
             (MovedAt (length self.old.frame.items) (length self.new.frame.items) now self.old.moved_at self.new.moved_at) }
         ensures few { length self.new.frame.items ≤ length self.old.frame.items + block_bytes }
+        ensures whole { self.old.is_whole ≡ true → (self.new ≡ self.old) × (result ≡ Ok Progress.Ended) }
+        ensures failed { OnErr result (self.new.is_whole ≡ false) }
     {
+        if self.is_whole {
+            return Ok(Progress::Ended);
+        }
         let wanted = missing(&self.frame);
-        if self.is_whole || wanted == 0 {
+        if wanted == 0 {
             self.is_whole = true;
             return Ok(Progress::Ended);
         }

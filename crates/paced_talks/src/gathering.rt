@@ -1,9 +1,9 @@
 // The connections whose frames come in, side by side.
 ghost use Rattle.std.specs.Prelude.{◌≡◌, ◌⊎◌, ◌≤◌, ◌<◌, ◌+◌, [], ◌∷◌, ◌++◌, length};
-ghost use Rattle.std.specs.Prelude.{remove, true, false, All, slice_index_or, OnOk, IfSome, IfNone, MatchOption};
+ghost use Rattle.std.specs.Prelude.{remove, true, false, All, slice_index_or, OnOk, OnErr, IfSome, IfNone, MatchOption};
 ghost use Rattle.paced_talks.specs.Frames.{frame_limit, block_bytes};
 ghost use Rattle.paced_talks.specs.Talks.{IsFirstFrame, most_asking, most_gathered, most_counted, counted_up, Loses};
-ghost use Rattle.paced_talks.specs.Coming.{bytes_of, goes_before, IsIdlest, LetsIdlestGo, HasLetIn, IsFirstWhole};
+ghost use Rattle.paced_talks.specs.Coming.{bytes_of, goes_before, IsIdlest, LetsIdlestGo, HasLetIn, IsFirstWhole, KeepsWhole};
 
 use crate::asking::Asking;
 use crate::frames::BLOCK;
@@ -11,6 +11,7 @@ use crate::step::{Progress, sooner};
 use std::alloc::{AllocError, Global};
 use std::io;
 use std::io::Read;
+use std::net::SocketAddr;
 use std::time::{Duration, Instant};
 
 /// The most connections whose frames come in side by side.
@@ -18,6 +19,9 @@ const MOST_ASKING: usize = 256;
 
 /// The most bytes of frames that come in side by side: two of the longest.
 const MOST_GATHERED: usize = 134_217_728;
+
+/// The most peers of connections that were let go of which the addresses are kept until they are told.
+const MOST_NAMED: usize = 256;
 
 /// Whether a connection goes before another one where there is no room for both: one whose frame is whole is behind all others, one
 /// that has brought its head behind those that have not, and of two alike the one that has been idle longer goes first.
@@ -43,6 +47,8 @@ pub struct Gathering<S: Read + Drop> {
     bytes: usize,
     /// How many connections were let go without their frame, and not told yet.
     lost: u64,
+    /// Whose they were, as far as that is kept.
+    lost_peers: Vec<SocketAddr>,
     ghost places: { length talks.items ≤ most_asking },
     ghost counted: { bytes ≡ bytes_of talks.items },
     ghost room: { bytes ≤ most_gathered },
@@ -60,6 +66,7 @@ impl<S: Read + Drop> Gathering<S> {
             talks: Vec::new(alloc),
             bytes: 0,
             lost: 0,
+            lost_peers: Vec::new(alloc),
         }
     }
 
@@ -70,12 +77,12 @@ impl<S: Read + Drop> Gathering<S> {
         self.talks.len() < MOST_ASKING || self.idlest().is_some()
     }
 
-    /// Lets a connection in that was taken at this moment, behind the others. Where all places are taken the idlest goes for it.
+    /// Lets a connection of this peer in that was taken at this moment, behind the others. Where all places are taken the idlest goes for it.
     ///
     /// # Errors
     ///
     /// Want of memory, and of a place where each frame is whole: it is counted as lost.
-    pub fn admit(&mut self, stream: S, now: Instant) -> Result<(), AllocError>
+    pub fn admit(&mut self, stream: S, peer: SocketAddr, now: Instant) -> Result<(), AllocError>
         ensures let_in { OnOk result (HasLetIn self.old.talks.items stream now self.new.talks.items) }
         ensures counted { Loses (length self.old.talks.items + 1) (length self.new.talks.items) self.old.lost self.new.lost }
     {
@@ -84,15 +91,18 @@ impl<S: Read + Drop> Gathering<S> {
         }
         if self.talks.len() >= MOST_ASKING {
             drop(stream);
-            self.count_lost();
+            self.count_lost(peer);
             return Err(AllocError);
         }
-        self.push(Asking::new(self.alloc, stream, now))
+        self.push(Asking::new(self.alloc, stream, peer, now))
     }
 
-    /// Has each connection read what has come, where there is room for it. Answers whether more may have come.
+    /// Has each connection read what has come, where there is room for it. Those whose frame is whole stay. Answers whether more may have
+    /// come.
+    #[tactic(auto, using(crate::proofs::Staying::keeps_all, crate::proofs::Staying::keeps_then, crate::proofs::Staying::keeps_removed))]
     pub fn step(&mut self, now: Instant) -> bool
-        ensures { Loses (length self.old.talks.items) (length self.new.talks.items) self.old.lost self.new.lost }
+        ensures counted { Loses (length self.old.talks.items) (length self.new.talks.items) self.old.lost self.new.lost }
+        ensures whole { KeepsWhole self.old.talks.items self.new.talks.items }
     {
         let mut moved = false;
         let mut block = [0; BLOCK];
@@ -113,9 +123,10 @@ impl<S: Read + Drop> Gathering<S> {
         moved
     }
 
-    /// The first connection whose frame is whole, with its frame: the first one of all that its stream brings, or all of that.
+    /// The first connection whose frame is whole, with its frame: the first one of all that its stream brings, or all of that. Behind
+    /// them its peer.
     #[tactic(auto, using(crate::proofs::Pieces::begun_fits))]
-    pub fn take_whole(&mut self) -> Option<(S, Vec<u8>)>
+    pub fn take_whole(&mut self) -> Option<(S, Vec<u8>, SocketAddr)>
         ensures limit { IfSome result (λ talk. length talk.1.items ≤ frame_limit) }
         ensures first { IfSome result (λ talk. IsFirstFrame talk.1.items (S.remaining talk.0)) }
         ensures oldest { IfSome result (λ talk. (place : _) × IsFirstWhole self.old.talks.items place
@@ -126,7 +137,7 @@ impl<S: Read + Drop> Gathering<S> {
         for place in 0..self.talks.len() {
             if self.talks[place].is_whole {
                 let talk = self.remove(place);
-                return Some((talk.stream, talk.frame));
+                return Some((talk.stream, talk.frame, talk.peer));
             }
         }
         None
@@ -145,12 +156,27 @@ impl<S: Read + Drop> Gathering<S> {
         true
     }
 
-    /// Counts a connection that was lost before it was let in.
-    pub fn count_lost(&mut self)
+    /// The peer of a connection that was let go and that was not given yet, those that went first before others; none where it is not
+    /// kept.
+    pub fn take_lost_peer(&mut self) -> Option<SocketAddr>
+        ensures lost { self.new.lost ≡ self.old.lost }
+        ensures talks { self.new.talks ≡ self.old.talks }
+    {
+        if self.lost_peers.is_empty() {
+            return None;
+        }
+        Some(self.lost_peers.remove(0))
+    }
+
+    /// Counts a connection of this peer that was lost before it was let in. Where memory for the peer is wanted, it is not kept.
+    pub fn count_lost(&mut self, peer: SocketAddr)
         ensures lost { self.new.lost ≡ counted_up 1 self.old.lost }
         ensures talks { self.new.talks ≡ self.old.talks }
     {
         self.lost = self.lost.saturating_add(1);
+        if self.lost_peers.len() < MOST_NAMED {
+            let _kept = self.lost_peers.push(peer);
+        }
     }
 
     /// The shorter of a wait and what is left of the time of a connection.
@@ -183,6 +209,7 @@ impl<S: Read + Drop> Gathering<S> {
     }
 
     /// Has the connection at a place read what has come.
+    #[tactic(auto, using(crate::proofs::Staying::keeps_changed))]
     fn step_at(
         &mut self,
         place: usize,
@@ -192,6 +219,8 @@ impl<S: Read + Drop> Gathering<S> {
         requires there { place < length self.old.talks.items }
         requires room { self.old.bytes + block_bytes ≤ most_gathered }
         ensures talks { length self.new.talks.items ≡ length self.old.talks.items }
+        ensures whole { KeepsWhole self.old.talks.items self.new.talks.items }
+        ensures failed { OnErr result ((none : _) → (slice_index_or self.new.talks.items place none).is_whole ≡ false) }
         ensures lost { self.new.lost ≡ self.old.lost }
     {
         let before = self.talks[place].frame.len();
@@ -207,11 +236,12 @@ impl<S: Read + Drop> Gathering<S> {
         ensures ok { OnOk result (self.new.talks.items ≡ self.old.talks.items ++ talk ∷ []) }
         ensures counted { Loses (length self.old.talks.items + 1) (length self.new.talks.items) self.old.lost self.new.lost }
     {
+        let peer = talk.peer;
         match self.talks.push(talk) {
             Ok(()) => Ok(()),
             Err(refused) => {
                 drop(refused);
-                self.count_lost();
+                self.count_lost(peer);
                 Err(AllocError)
             }
         }
@@ -232,8 +262,10 @@ impl<S: Read + Drop> Gathering<S> {
 
     /// Lets the idlest connection go, unless a frame is whole: that one is taken next, and makes room. Answers that there may be more
     /// to read.
+    #[tactic(auto, using(crate::proofs::Staying::keeps_all, crate::proofs::Staying::keeps_others))]
     fn make_room(&mut self) -> bool
-        ensures { Loses (length self.old.talks.items) (length self.new.talks.items) self.old.lost self.new.lost }
+        ensures counted { Loses (length self.old.talks.items) (length self.new.talks.items) self.old.lost self.new.lost }
+        ensures whole { KeepsWhole self.old.talks.items self.new.talks.items }
     {
         if !self.talks.iter().any(|talk| talk.is_whole) {
             self.let_idlest_go();
@@ -258,8 +290,10 @@ impl<S: Read + Drop> Gathering<S> {
         ensures fewer { length self.new.talks.items + 1 ≡ length self.old.talks.items }
         ensures lost { self.new.lost ≡ counted_up 1 self.old.lost }
     {
-        drop(self.remove(place));
-        self.count_lost();
+        let talk = self.remove(place);
+        let peer = talk.peer;
+        drop(talk);
+        self.count_lost(peer);
     }
 
     /// The place of the idlest connection whose frame is not whole.

@@ -16,4 +16,4 @@ pub use frames::{MAX_FRAME, read_frame};
 pub use gathering::Gathering;
 pub use parting::Partings;
 pub use step::{is_passing, sooner};
-pub use window::{WINDOW_PACE, WINDOW_SECONDS, Window};
+pub use window::{Window, in_buffers};

@@ -1,14 +1,16 @@
 // What a client's standard error tells of its asks.
+use crate::missed::Missed;
+use crate::misses::Misses;
 use crate::telling::Teller;
 use crate::terminal::Progress;
-use crate::texts::{Grouped, bytes, cause_text};
-use mod_log::{SketchEffect, SketchEntry};
+use crate::texts::{Grouped, Reads, bytes, cause_text};
+use mod_log::{Origin, SketchEffect, SketchEntry};
 use std::alloc::Global;
 use std::time::Clock;
 use wire_frames::{Head, Kind, Message, head_of, read};
 use world_rules::Peer;
 
-/// How many asks of a store fail before it is given up.
+/// How many asks of a request fail before it is given up.
 const ASKS: u32 = 8;
 
 /// What came of the command of an entry.
@@ -31,23 +33,34 @@ struct ToldCommand {
     bytes: usize,
     /// How many bytes the contents have for which that stands.
     contents: Option<u64>,
+    /// What it is said to read.
+    reads: Reads,
     outcome: CommandEnd,
+    /// The asks that no surrogate answered.
+    misses: Misses,
     /// How many bytes its store has, once that is asked.
     store_bytes: usize,
-    /// How many asks of the store have failed.
-    failed: u32,
 }
 
-/// Tells on standard error how asks go on that take long, where that is a terminal, and which way each entry went that was asked of
-/// a surrogate as a command, once it is settled.
+/// A request that a server is asked, which has got no reply yet.
+#[derive(Drop)]
+struct Unanswered {
+    request: Head,
+    asks: u32,
+    misses: Misses,
+}
+
+/// Tells on standard error how asks go on that take long, where that is a terminal; which way each entry went that was asked of
+/// a surrogate as a command, once it is settled; and why a request that is given up got no reply.
 #[derive(Drop)]
 pub struct ClientTeller<'a, R: Eprint + Clock + AllocGlobal> {
     rt: &'a R,
     program: &'static str,
     progress: Progress<'a, R>,
     /// The request that is asked now.
-    asked: Option<Head>,
+    asked: Option<(Peer, Head)>,
     command: Option<ToldCommand>,
+    unanswered: Option<Unanswered>,
 }
 
 impl<'a, R: Eprint + Clock + AllocGlobal> ClientTeller<'a, R> {
@@ -59,6 +72,7 @@ impl<'a, R: Eprint + Clock + AllocGlobal> ClientTeller<'a, R> {
             progress: Progress::new(rt, program, is_terminal),
             asked: None,
             command: None,
+            unanswered: None,
         }
     }
 
@@ -77,13 +91,13 @@ impl<'a, R: Eprint + Clock + AllocGlobal> ClientTeller<'a, R> {
     }
 
     /// Takes note of what came of an ask about the command's entry.
-    fn note_answer(&mut self, request: Head, reply: Option<&[u8]>) {
+    fn note_answer(&mut self, request: Head, address: &[u8], reply: Result<&[u8], &Missed>) {
         let Some(mut command) = self.command.take() else {
             return;
         };
         let is_settled = match request.kind {
-            Kind::Operate => self.is_operated(&mut command, reply),
-            Kind::Store => self.is_stored(&mut command, reply),
+            Kind::Operate => self.is_operated(&mut command, address, reply),
+            Kind::Store => self.is_stored(&command, reply),
             _ => true,
         };
         if is_settled {
@@ -94,32 +108,73 @@ impl<'a, R: Eprint + Clock + AllocGlobal> ClientTeller<'a, R> {
     }
 
     /// Takes note of an operation's answer. Answers whether the entry is settled.
-    fn is_operated(&self, command: &mut ToldCommand, reply: Option<&[u8]>) -> bool {
-        let Some(reply) = reply else {
-            return false;
-        };
-        if is_of_kind(reply, Kind::Done) {
-            self.tell_done(command);
-            return true;
+    fn is_operated(
+        &self,
+        command: &mut ToldCommand,
+        address: &[u8],
+        reply: Result<&[u8], &Missed>,
+    ) -> bool {
+        match reply {
+            Err(missed) => {
+                command.misses.note(Peer::Surrogate, address, missed);
+                false
+            }
+            Ok(reply) if is_of_kind(reply, Kind::Done) => {
+                self.tell_done(command);
+                true
+            }
+            Ok(reply) => {
+                command.outcome = outcome_of(self.rt.alloc(), reply, &command.reads);
+                false
+            }
         }
-        command.outcome = outcome_of(self.rt.alloc(), reply);
-        false
     }
 
     /// Takes note of a store's answer. Answers whether the entry is settled.
-    fn is_stored(&self, command: &mut ToldCommand, reply: Option<&[u8]>) -> bool {
+    fn is_stored(&self, command: &ToldCommand, reply: Result<&[u8], &Missed>) -> bool {
         match reply {
-            Some(reply) if is_of_kind(reply, Kind::Accepted) => self.tell_files(command),
-            Some(_) => self.tell_declined(command),
-            None => {
-                command.failed = command.failed.saturating_add(1);
-                if command.failed < ASKS {
-                    return false;
-                }
-                self.tell_declined(command);
-            }
+            Ok(reply) if is_of_kind(reply, Kind::Accepted) => self.tell_files(command),
+            Ok(_) => self.tell_declined(command),
+            Err(_) => return false,
         }
         true
+    }
+
+    /// Takes note of an ask of the server that got a reply, or none. A request that is given up is told with its reason, behind what is
+    /// told of its entry's command.
+    fn note_server(&mut self, request: Head, address: &[u8], reply: Result<&[u8], &Missed>) {
+        let Err(missed) = reply else {
+            self.unanswered = None;
+            return;
+        };
+        let mut unanswered = self.unanswered_of(request);
+        unanswered.asks = unanswered.asks.saturating_add(1);
+        unanswered.misses.note(Peer::Server, address, missed);
+        if unanswered.asks < ASKS {
+            self.unanswered = Some(unanswered);
+            return;
+        }
+        if let Some(command) = self.command.take() {
+            self.tell_declined(&command);
+            drop(command);
+        }
+        unanswered.misses.tell(self.rt, self.program);
+        drop(unanswered);
+    }
+
+    /// What is noted of this request to the server.
+    fn unanswered_of(&mut self, request: Head) -> Unanswered {
+        match self.unanswered.take() {
+            Some(unanswered) if is_alike(unanswered.request, request) => unanswered,
+            other => {
+                drop(other);
+                Unanswered {
+                    request,
+                    asks: 0,
+                    misses: Misses::new(self.rt.alloc()),
+                }
+            }
+        }
     }
 
     /// Tells that the entry went as its command.
@@ -138,6 +193,9 @@ impl<'a, R: Eprint + Clock + AllocGlobal> ClientTeller<'a, R> {
     fn tell_files(&self, command: &ToldCommand) {
         let (program, number) = (self.program, command.number);
         let sent = bytes(command.store_bytes);
+        if let CommandEnd::Unanswered = &command.outcome {
+            command.misses.tell(self.rt, program);
+        }
         let _ = match &command.outcome {
             CommandEnd::Unanswered => eprintln!(self.rt;
                 "{program}: entry {number}: no surrogate answered; its files went, {sent} bytes"
@@ -166,16 +224,23 @@ fn is_about(command: &Option<ToldCommand>, request: Head) -> bool {
     }
 }
 
+/// Whether the requests are the same one.
+fn is_alike(one: Head, other: Head) -> bool {
+    one.kind == other.kind && one.client == other.client && one.number == other.number
+}
+
 /// The command of the entry that this frame of an operation is about.
 fn command_of(alloc: Global, request: Head, frame: &[u8]) -> ToldCommand {
+    let (contents, reads) = operation_of(alloc, frame);
     ToldCommand {
         client: request.client,
         number: request.number,
         bytes: frame.len(),
-        contents: contents_of(alloc, frame),
+        contents,
+        reads,
         outcome: CommandEnd::Unanswered,
+        misses: Misses::new(alloc),
         store_bytes: 0,
-        failed: 0,
     }
 }
 
@@ -184,17 +249,29 @@ fn is_of_kind(bytes: &[u8], kind: Kind) -> bool {
     head_of(bytes).is_some_and(|head| head.kind == kind)
 }
 
-/// How many bytes the contents have for which an operation's frame stands; none where memory to look is wanted.
-fn contents_of(alloc: Global, frame: &[u8]) -> Option<u64> {
+/// How many bytes the contents have for which an operation's frame stands, and what its command is said to read; neither where memory
+/// to look is wanted.
+fn operation_of(alloc: Global, frame: &[u8]) -> (Option<u64>, Reads) {
     let Ok(message) = read(alloc, frame) else {
-        return None;
+        return (None, Reads::Unknown);
     };
-    let contents = match &message {
-        Message::Operate { entry, .. } => Some(bytes_of(entry)),
-        _ => None,
+    let told = match &message {
+        Message::Operate { entry, .. } => (Some(bytes_of(entry)), reads_of(&entry.origin)),
+        _ => (None, Reads::Unknown),
     };
     drop(message);
-    contents
+    told
+}
+
+/// What the command is said to read that made an entry.
+fn reads_of(origin: &Origin) -> Reads {
+    if !origin.command.inputs.as_slice().is_empty() {
+        return Reads::Inputs;
+    }
+    match origin.command.cwd.text() {
+        Ok(folder) => Reads::Folder(folder),
+        Err(_) => Reads::Unknown,
+    }
 }
 
 /// How many bytes the contents have that an entry makes.
@@ -208,13 +285,13 @@ fn bytes_of(entry: &SketchEntry) -> u64 {
     sum
 }
 
-/// What a reply to an operation says, which is not that it is done.
-fn outcome_of(alloc: Global, reply: &[u8]) -> CommandEnd {
+/// What a reply to the operation of a command that reads this says, which is not that it is done.
+fn outcome_of(alloc: Global, reply: &[u8], reads: &Reads) -> CommandEnd {
     let Ok(message) = read(alloc, reply) else {
         return CommandEnd::Unknown;
     };
     let text = match &message {
-        Message::Declined { cause, .. } => cause_text(alloc, cause).ok(),
+        Message::Declined { cause, .. } => cause_text(alloc, cause, reads).ok(),
         _ => None,
     };
     drop(message);
@@ -227,7 +304,7 @@ fn outcome_of(alloc: Global, reply: &[u8]) -> CommandEnd {
 impl<'a, R: Eprint + Clock + AllocGlobal> Teller for ClientTeller<'a, R> {
     fn begin(&mut self, to: Peer, request: Head, frame: &[u8]) {
         self.progress.begin(to, request, frame.len());
-        self.asked = Some(request);
+        self.asked = Some((to, request));
         self.note_request(request, frame);
     }
 
@@ -243,10 +320,14 @@ impl<'a, R: Eprint + Clock + AllocGlobal> Teller for ClientTeller<'a, R> {
         self.progress.came(bytes);
     }
 
-    fn end(&mut self, reply: Option<&[u8]>) {
+    fn end(&mut self, address: &[u8], reply: Result<&[u8], &Missed>) {
         self.progress.end();
-        if let Some(request) = self.asked.take() {
-            self.note_answer(request, reply);
+        let Some((to, request)) = self.asked.take() else {
+            return;
+        };
+        self.note_answer(request, address, reply);
+        if to == Peer::Server {
+            self.note_server(request, address, reply);
         }
     }
 }

@@ -6,7 +6,7 @@ use crate::wants::{Hindrance, why_none_came};
 use std::alloc::Global;
 use std::io;
 use std::io::ErrorKind;
-use std::net::{Net, OpenListener, TcpListener};
+use std::net::{Net, OpenListener, SocketAddr, TcpListener};
 use std::time::{Clock, Duration, Instant};
 
 /// How many connections are let in before what they brought is read.
@@ -25,6 +25,8 @@ pub(crate) struct Connections<'a, N: Net + Clock> {
     talks: Talks<'a, N>,
     /// The connection whose frame was taken last, until it is answered.
     taken: Option<N::Stream>,
+    /// Whose connection was taken last, or lost without its frame.
+    peer: Option<SocketAddr>,
     /// How often handles or buffers were wanted since the last connection was let in.
     wants: u32,
     /// When they were wanted last, in that time.
@@ -49,6 +51,7 @@ impl<'a, N: Net + Clock> Connections<'a, N> {
             listener,
             talks,
             taken: None,
+            peer: None,
             wants: 0,
             wanted_at: None,
         })
@@ -72,6 +75,11 @@ impl<'a, N: Net + Clock> Connections<'a, N> {
         let _ended = talks.finish();
     }
 
+    /// Whose connection the last take was about, where that is known.
+    pub(crate) fn peer(&self) -> Option<SocketAddr> {
+        self.peer
+    }
+
     /// Waits for the next frame that is whole. A connection that was taken before and not answered is closed.
     ///
     /// # Errors
@@ -79,10 +87,12 @@ impl<'a, N: Net + Clock> Connections<'a, N> {
     /// `TimedOut` where a connection was let go without its frame, and the platform's.
     pub(crate) fn take(&mut self) -> io::Result<Vec<u8>> {
         self.taken = None;
+        self.peer = None;
         let came = self.next_frame();
         self.talks.leave();
-        let (stream, frame) = came?;
+        let (stream, frame, peer) = came?;
         self.taken = Some(stream);
+        self.peer = Some(peer);
         Ok(frame)
     }
 
@@ -104,8 +114,8 @@ impl<'a, N: Net + Clock> Connections<'a, N> {
         }
     }
 
-    /// Waits for the next frame that is whole, and gives it with its connection. Meanwhile all connections go on.
-    fn next_frame(&mut self) -> io::Result<(N::Stream, Vec<u8>)> {
+    /// Waits for the next frame that is whole, and gives it with its connection and its peer. Meanwhile all connections go on.
+    fn next_frame(&mut self) -> io::Result<(N::Stream, Vec<u8>, SocketAddr)> {
         let mut now = self.talks.come_back()?;
         for _ in 0..u64::MAX {
             let waits = self.let_in(now)?;
@@ -114,6 +124,7 @@ impl<'a, N: Net + Clock> Connections<'a, N> {
                 return Ok(whole);
             }
             if self.talks.take_lost() {
+                self.peer = self.talks.take_lost_peer();
                 break;
             }
             let pause = self.pause(now);
@@ -132,10 +143,10 @@ impl<'a, N: Net + Clock> Connections<'a, N> {
                 break;
             }
             match self.listener.accept() {
-                Ok((stream, _peer)) => {
+                Ok((stream, peer)) => {
                     self.wants = 0;
                     self.wanted_at = None;
-                    self.talks.admit(stream, now);
+                    self.talks.admit(stream, peer, now);
                 }
                 Err(error) => return self.hindered(error, now),
             }

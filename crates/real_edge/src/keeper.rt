@@ -17,7 +17,8 @@ use std::rt::Files;
 /// keeper has the lock of each image that it was asked for, until it is dropped.
 ///
 /// What it makes is for its owner alone; the rights that a user gave an image stay. What stood under the name with `.new` is removed
-/// before, and never written through. Where an image is a link, a save puts a file in the link's place.
+/// before, and never written through; what was written there in part, on a full disk, is removed behind it. Where an image is a link,
+/// a save puts a file in the link's place.
 #[derive(Drop)]
 pub struct FileKeeper<'a, R: Files<File = File>> {
     alloc: Global,

@@ -3,14 +3,19 @@
 //! Every wait for a peer has an end.
 #![tactic(auto)]
 
+mod address_form;
 mod addresses;
 mod client_teller;
 mod connections;
 mod faults;
+mod hints;
 mod keeper;
 mod link;
 mod lock;
 mod logged_port;
+mod missed;
+mod misses;
+mod moment;
 mod names;
 mod pace;
 mod port;
@@ -25,13 +30,15 @@ mod trouble;
 mod wants;
 mod watch;
 
+pub use address_form::{AddressFault, address_fault, tell_addresses};
 pub use client_teller::ClientTeller;
 pub use keeper::FileKeeper;
 pub use link::TcpLink;
 pub use lock::write_down;
-pub use logged_port::LoggedPort;
+pub use logged_port::{LoggedPort, PeerPort};
+pub use missed::Missed;
 pub use port::TcpPort;
-pub use prompting::{Prompting, Terminals};
+pub use prompting::{LineProgram, Noting, Prompting, Terminals};
 pub use steady::{SteadyRead, SteadyWrite};
 pub use streams::{StdSink, StdSource};
 pub use telling::{Teller, Untold};

@@ -7,29 +7,31 @@ ghost use Rattle.world_rules.specs.World.{World};
 ghost use Rattle.world_rules.specs.Asking.{IsRequest, IsReplyTo, AsksOnce, IsDirect};
 ghost use Rattle.paced_talks.specs.Window.{HasWaited};
 ghost use Rattle.real_edge.specs.Addresses.{without_address};
-ghost use Rattle.real_edge.specs.Patience.{patience, in_buffers, pause, after_silence, silent_after, RemembersSilence};
+ghost use Rattle.real_edge.specs.Patience.{patience, pause, after_silence, silent_after, RemembersSilence};
+ghost use Rattle.real_edge.specs.Patience.{RemembersBreak, longer_pause, pause_after};
 ghost use Rattle.real_edge.specs.Inside.{IsEchoTo};
 
 use crate::addresses::Addresses;
 use crate::faults::count_fault;
+use crate::missed::{Missed, to_link};
 use crate::pace::Paced;
 use crate::telling::{Teller, ToldStream, Untold};
-use paced_talks::{WINDOW_PACE, WINDOW_SECONDS, read_frame};
+use paced_talks::{in_buffers, read_frame};
 use std::alloc::Global;
 use std::io::{ErrorKind, Read, Write};
 use std::net::{Net, OpenStream, TcpStream, ToSocketAddrs};
-use std::time::{Clock, Duration};
+use std::time::{Clock, Duration, Instant};
 use std::{io, thread};
-use wire_frames::{FrameError, Head, head_of, read};
+use wire_frames::{Head, head_of, read};
 use world_rules::{Link, LinkError, Peer};
 
-/// For how many seconds the first byte of a surrogate's answer is waited for: it runs a command before, which it ends after 500
-/// seconds, and asks its server before and behind it. So the answer that the command ran too long comes in time, too.
-const COMMAND_SECONDS: u64 = 600;
+/// For how many seconds the first byte of an answer is waited for.
+const SILENCE_SECONDS: u64 = 30;
 
-/// The most bytes of a request that lie in buffers of this machine once the system has taken all, on a link of the slowest pace:
-/// some 130,000 were seen.
-const MOST_BUFFERED: u64 = 262_144;
+/// For how many seconds the first byte of a surrogate's answer is waited for. 500 are the command's, which is ended then. The others are
+/// for the commands that wait there before it, for what the surrogate asks its server, and for comparing and repairing; where that takes
+/// longer the answer comes too late, and the ask fails.
+const COMMAND_SECONDS: u64 = 600;
 
 /// The longest wait for one address of a peer to answer.
 const CONNECT_SECONDS: u64 = 10;
@@ -41,9 +43,19 @@ const MOST_ADDRESSES: usize = 4;
 /// back by the last try.
 const PAUSE_MILLIS: u64 = 250;
 
+/// How often what is left of a pause is told, in milliseconds.
+const TOLD_MILLIS: u64 = 200;
+
+/// How long an address is left alone behind the first try that broke there, in milliseconds: what was given up leaves the link
+/// meanwhile.
+const FIRST_PAUSE: u64 = 1_000;
+
+/// And at most, behind several in a row: a queue of ten seconds is empty by then.
+const MOST_PAUSE: u64 = 16_000;
+
 /// Asks over TCP, each over a connection of its own, and tells how that goes on. Addresses that were `silent` are remembered, so that a
-/// surrogate that is gone costs one long wait, and no more until it answers; and those that `refused` a connection are left alone for
-/// a moment before the next ask.
+/// surrogate that is gone costs one long wait, and no more until it answers; those that `refused` a connection are left alone for a
+/// moment before the next ask, and those where the last tries broke for a longer one. The time since the last ask that failed counts.
 #[derive(Drop)]
 pub struct TcpLink<'a, N: Net + Clock, T: Teller + Drop = Untold> {
     alloc: Global,
@@ -51,6 +63,11 @@ pub struct TcpLink<'a, N: Net + Clock, T: Teller + Drop = Untold> {
     teller: T,
     silent: Addresses,
     refused: Addresses,
+    broken: Addresses,
+    /// How many milliseconds pass behind the last try that broke.
+    broken_pause: u64,
+    /// When the last ask failed, at any address.
+    failed_at: Option<Instant>,
     troubles: u64,
 }
 
@@ -74,6 +91,9 @@ impl<'a, N: Net + Clock, T: Teller + Drop> TcpLink<'a, N, T> {
             teller,
             silent: Addresses::new(alloc),
             refused: Addresses::new(alloc),
+            broken: Addresses::new(alloc),
+            broken_pause: 0,
+            failed_at: None,
             troubles: 0,
         }
     }
@@ -102,16 +122,17 @@ impl<'a, N: Net + Clock, T: Teller + Drop> TcpLink<'a, N, T> {
         ensures troubles { self.new.troubles ≡ self.old.troubles }
         // whoever answers is silent no more
         ensures answered { IfOk result (λ _. self.new.silent ≡ silent_after to address.now self.old.silent) }
+        // and no pause follows
+        ensures unbroken { IfOk result (λ _. self.new.broken ≡ without_address address.now self.old.broken) }
         // memory may be wanted for an address
         ensures silent { (self.new.silent ≡ silent_after to address.now self.old.silent)
             ⊎ (self.new.silent ≡ after_silence to address.now self.old.silent) ⊎ (self.new.silent ≡ self.old.silent) }
     {
-        thread::sleep(
-            self.net,
-            Duration::from_millis(pause(&self.refused, address)),
-        );
+        let pause = pause(&self.refused, &self.broken, self.broken_pause, address);
         let seconds = patience(&self.silent, to, address) + in_buffers(frame.len());
         self.teller.begin(to, request, frame);
+        let left = left_of(self.net, pause, self.failed_at);
+        let_pass(self.net, &mut self.teller, left);
         let came = exchange(
             self.alloc,
             self.net,
@@ -122,26 +143,31 @@ impl<'a, N: Net + Clock, T: Teller + Drop> TcpLink<'a, N, T> {
         );
         note_refusal(&mut self.refused, address, &came);
         note_silence(&mut self.silent, to, address, &came);
-        let reply = echoed(self.alloc, request, came);
-        tell_end(&mut self.teller, &reply);
-        reply
+        let reply = echoed(self.alloc, request, seconds, came);
+        self.broken_pause = pause_after(&self.broken, self.broken_pause, address, &reply);
+        note_break(&mut self.broken, address, &reply);
+        if reply.is_err() {
+            self.failed_at = Instant::now(self.net).ok();
+        }
+        tell_end(&mut self.teller, address, &reply);
+        to_link(reply)
     }
 }
 
-/// Tells that an ask is over, and what came.
-fn tell_end<T: Teller>(teller: &mut T, reply: &Result<Vec<u8>, LinkError>) {
+/// Tells that an ask at the address is over, and what came.
+fn tell_end<T: Teller>(teller: &mut T, address: &[u8], reply: &Result<Vec<u8>, Missed>) {
     match reply {
-        Ok(bytes) => teller.end(Some(bytes.as_slice())),
-        Err(_) => teller.end(None),
+        Ok(bytes) => teller.end(address, Ok(bytes.as_slice())),
+        Err(missed) => teller.end(address, Err(missed)),
     }
 }
 
 /// Remembers whether the address refused the connection of its last ask.
-fn note_refusal(refused: &mut Addresses, address: &[u8], came: &io::Result<Option<Vec<u8>>>)
+fn note_refusal(refused: &mut Addresses, address: &[u8], came: &Result<Option<Vec<u8>>, Missed>)
     ensures { IfOk came.now (λ _. refused.new ≡ without_address address.now refused.old) }
 {
     refused.forget(address);
-    if let Err(error) = came
+    if let Err(Missed::NoConnection(error)) = came
         && error.kind() == ErrorKind::ConnectionRefused
     {
         refused.remember(address);
@@ -153,7 +179,7 @@ fn note_silence(
     silent: &mut Addresses,
     to: Peer,
     address: &[u8],
-    came: &io::Result<Option<Vec<u8>>>,
+    came: &Result<Option<Vec<u8>>, Missed>,
 )
     ensures { RemembersSilence to address.now came.now silent.old silent.new }
 {
@@ -167,12 +193,50 @@ fn note_silence(
     }
 }
 
-/// What came of an ask, where it spells a reply to the request with this head.
+/// Remembers whether the last try at the address broke.
+fn note_break(broken: &mut Addresses, address: &[u8], reply: &Result<Vec<u8>, Missed>)
+    ensures { RemembersBreak address.now reply.now broken.old broken.new }
+{
+    match reply {
+        Err(missed) if missed.is_break() => broken.remember(address),
+        Ok(_) | Err(_) => broken.forget(address),
+    }
+}
+
+/// How many milliseconds pass behind the last try that broke, after an ask of the address of which this came, where the last tries at
+/// these broke, and so many passed behind the one before.
+fn pause_after(
+    broken: &Addresses,
+    before: u64,
+    address: &[u8],
+    reply: &Result<Vec<u8>, Missed>,
+) -> u64
+    ensures { result ≡ pause_after address.now reply.now broken.now before }
+{
+    match reply {
+        Err(missed) if missed.is_break() => longer_pause(broken, before, address),
+        Ok(_) | Err(_) => before,
+    }
+}
+
+/// How many milliseconds pass behind a try at the address that broke: twice as many as before, where the one before broke there, too.
+fn longer_pause(broken: &Addresses, before: u64, address: &[u8]) -> u64
+    ensures { result ≡ longer_pause address.now broken.now before }
+{
+    if broken.contains(address) {
+        before.saturating_mul(2).min(MOST_PAUSE)
+    } else {
+        FIRST_PAUSE
+    }
+}
+
+/// What came of an ask that waited for so many seconds, where it spells a reply to the request with this head.
 fn echoed(
     alloc: Global,
     request: Head,
-    came: io::Result<Option<Vec<u8>>>,
-) -> Result<Vec<u8>, LinkError>
+    seconds: u64,
+    came: Result<Option<Vec<u8>>, Missed>,
+) -> Result<Vec<u8>, Missed>
     ensures reply { IfOk result (λ bytes. IsEchoTo request bytes.items) }
     ensures some { IfOk result (λ bytes. came ≡ Ok (Some bytes)) }
 {
@@ -184,20 +248,45 @@ fn echoed(
                 Err(refused)
             }
         },
-        Ok(None) => Err(LinkError::Failed),
-        Err(error) => Err(refusal_of(error)),
+        Ok(None) => Err(Missed::Silent(seconds)),
+        Err(missed) => Err(missed),
     }
 }
 
-/// How many milliseconds pass before an ask of the address, where these refused a connection.
-fn pause(refused: &Addresses, address: &[u8]) -> u64
-    ensures { result ≡ pause address.now refused.now }
+/// How many milliseconds pass before an ask of the address, where these refused a connection, and the last tries at these broke, with so
+/// long a pause behind them.
+fn pause(refused: &Addresses, broken: &Addresses, behind: u64, address: &[u8]) -> u64
+    ensures { result ≡ pause address.now refused.now broken.now behind }
 {
     if refused.contains(address) {
         PAUSE_MILLIS
+    } else if broken.contains(address) {
+        behind
     } else {
         0
     }
+}
+
+/// How many milliseconds are left of a pause of so many behind an ask that failed then: all of them, where nobody knows the time.
+fn left_of<C: Clock>(clock: &C, pause: u64, failed_at: Option<Instant>) -> u64 {
+    let Some(failed_at) = failed_at else {
+        return pause;
+    };
+    match failed_at.elapsed(clock) {
+        Ok(passed) => Duration::from_millis(pause)
+            .saturating_sub(passed)
+            .as_millis() as u64,
+        Err(_) => pause,
+    }
+}
+
+/// Lets so many milliseconds go by, and tells meanwhile that the ask is waited for.
+fn let_pass<C: Clock, T: Teller>(clock: &C, teller: &mut T, millis: u64) {
+    for _ in 0..millis / TOLD_MILLIS {
+        thread::sleep(clock, Duration::from_millis(TOLD_MILLIS));
+        teller.waits();
+    }
+    thread::sleep(clock, Duration::from_millis(millis % TOLD_MILLIS));
 }
 
 /// Sends the frame over a new connection, and gives the frame that comes back; none where its first byte has not come within so
@@ -209,8 +298,20 @@ fn exchange<N: Net + Clock, T: Teller>(
     address: &[u8],
     frame: &[u8],
     seconds: u64,
+) -> Result<Option<Vec<u8>>, Missed> {
+    let stream = connect(alloc, net, address)?;
+    talk(alloc, net, stream, teller, frame, seconds).map_err(Missed::of_talk)
+}
+
+/// The same over this connection.
+fn talk<N: Net + Clock, T: Teller>(
+    alloc: Global,
+    net: &N,
+    stream: N::Stream,
+    teller: &mut T,
+    frame: &[u8],
+    seconds: u64,
 ) -> io::Result<Option<Vec<u8>>> {
-    let stream = connect(net, address)?;
     let mut stream = Paced::start(stream, net)?;
     let reply = converse(alloc, &mut stream, teller, frame, seconds);
     drop(stream);
@@ -222,22 +323,15 @@ fn patience(silent: &Addresses, to: Peer, address: &[u8]) -> u64
     ensures { result ≡ patience to address.now silent.now }
 {
     match to {
-        Peer::Server => WINDOW_SECONDS,
+        Peer::Server => SILENCE_SECONDS,
         Peer::Surrogate => {
             if silent.contains(address) {
-                WINDOW_SECONDS
+                SILENCE_SECONDS
             } else {
                 COMMAND_SECONDS
             }
         }
     }
-}
-
-/// How many seconds the end of so many bytes takes to leave this machine, at the slowest pace that a window lets pass.
-fn in_buffers(bytes: usize) -> u64
-    ensures { result ≡ in_buffers bytes }
-{
-    (bytes as u64).min(MOST_BUFFERED) / WINDOW_PACE
 }
 
 /// Sends the frame, and reads the one that comes back once the peer has worked; none where that takes longer than so many seconds.
@@ -250,6 +344,7 @@ fn converse<S: Read + Write + OpenStream + Drop, C: Clock, T: Teller>(
 ) -> io::Result<Option<Vec<u8>>>
     ensures { IfOk result (λ reply. reply ≡ None → HasWaited seconds stream.new.window) }
 {
+    stream.begin_sending(frame.len())?;
     send(stream, teller, frame)?;
     if !stream.wait(seconds, teller)? {
         return Ok(None);
@@ -278,48 +373,37 @@ fn receive<S: Read + Write, T: Teller>(
 }
 
 /// Refuses bytes that spell no reply to the request with this head.
-fn check_echo(alloc: Global, request: Head, bytes: &[u8]) -> Result<(), LinkError>
+fn check_echo(alloc: Global, request: Head, bytes: &[u8]) -> Result<(), Missed>
     ensures { OnOk result (IsEchoTo request bytes.now) }
 {
     match read(alloc, bytes) {
         Ok(reply) => {
             let fits = request.is_echoed_by(&reply);
+            let missed = Missed::of_message(&reply);
             drop(reply);
-            if fits { Ok(()) } else { Err(LinkError::Failed) }
+            if fits { Ok(()) } else { Err(missed) }
         }
-        Err(refused) => Err(failure_of(&refused)),
-    }
-}
-
-/// What bytes that are no frame are to an ask.
-fn failure_of(refused: &FrameError) -> LinkError {
-    match refused {
-        FrameError::Memory => LinkError::Memory,
-        _ => LinkError::Failed,
+        Err(refused) => Err(Missed::of_bytes(&refused, bytes)),
     }
 }
 
 /// Connects to the first address of a peer that answers.
-fn connect<N: Net>(net: &N, address: &[u8]) -> io::Result<N::Stream> {
+fn connect<N: Net>(alloc: Global, net: &N, address: &[u8]) -> Result<N::Stream, Missed> {
     let Ok(address) = str::from_utf8(address) else {
-        return Err(io::Error::from(ErrorKind::InvalidInput));
+        return Err(Missed::NoForm);
     };
-    let mut last = io::Error::from(ErrorKind::InvalidInput);
-    for found in address.to_socket_addrs(net)?.take(MOST_ADDRESSES) {
+    let addresses = match address.to_socket_addrs(net) {
+        Ok(addresses) => addresses,
+        Err(error) => return Err(Missed::of_lookup(alloc, error)),
+    };
+    let mut last = io::Error::from(ErrorKind::AddrNotAvailable);
+    for found in addresses.take(MOST_ADDRESSES) {
         match TcpStream::connect_timeout(net, &found, Duration::from_secs(CONNECT_SECONDS)) {
             Ok(stream) => return Ok(stream),
             Err(error) => last = error,
         }
     }
-    Err(last)
-}
-
-/// What an error of the platform is to an ask.
-fn refusal_of(error: io::Error) -> LinkError {
-    match error.kind() {
-        ErrorKind::OutOfMemory => LinkError::Memory,
-        _ => LinkError::Failed,
-    }
+    Err(Missed::of_connection(last))
 }
 
 impl<'a, N: Net + Clock, T: Teller + Drop> Link for TcpLink<'a, N, T> {

@@ -134,7 +134,8 @@ fn write_over<R: Files>(files: &R, beside: &str, name: &str, bytes: &[u8]) -> Re
     at(FileStep::Settle, sync_folder(files, folder_of(name)))
 }
 
-/// Writes the file anew, never through a link that stands there. It is for its owner alone, or has the rights of the image.
+/// Writes the file anew, never through a link that stands there. It is for its owner alone, or has the rights of the image. Where
+/// writing it fails it is removed, so that it takes no room from others.
 fn write_fresh<R: Files>(files: &R, beside: &str, name: &str, bytes: &[u8]) -> io::Result<()> {
     remove_old(files, beside)?;
     let mut file = OpenOptions::new()
@@ -144,6 +145,9 @@ fn write_fresh<R: Files>(files: &R, beside: &str, name: &str, bytes: &[u8]) -> i
         .open(files, beside)?;
     let written = fill(&mut file, rights_of(files, name), bytes);
     drop(file);
+    if written.is_err() {
+        let _removed = fs::remove_file(files, beside);
+    }
     written
 }
 

@@ -3,17 +3,52 @@ ghost use Rattle.std.specs.Prelude.{◌≡◌, ◌-◌, ◌↔◌, None, Ok};
 ghost use Rattle.outside.specs.Outside.{Told, CountsFault};
 ghost use Rattle.outside.specs.Port.{AddsTalks, talks_begun, AnswersLast};
 
+use crate::moment::{Moment, moment_now};
 use crate::texts::bytes;
-use outside::{Port, PortError};
+use outside::{MemPort, Port, PortError};
+use std::fmt::{self, Display, Formatter};
+use std::net::SocketAddr;
 use std::time::{Clock, Instant};
 use wire_frames::{Head, Kind, head_of};
+
+/// A port that knows its peers.
+pub trait PeerPort: Port {
+    /// Whose connection the last take was about, where that is known.
+    fn peer(&self) -> Option<SocketAddr>;
+}
+
+/// A port in memory has peers of no address.
+impl PeerPort for MemPort {
+    fn peer(&self) -> Option<SocketAddr> {
+        None
+    }
+}
 
 /// A request that was taken and not answered yet.
 #[derive(Clone, Copy)]
 struct LoggedRequest {
     head: Option<Head>,
+    peer: Option<SocketAddr>,
     bytes: usize,
     at: Option<Instant>,
+}
+
+/// What stands before what a line tells: when that is, and of which peer, as far as both are known.
+#[derive(Clone, Copy)]
+struct LineHead {
+    moment: Option<Moment>,
+    peer: Option<SocketAddr>,
+}
+
+impl Display for LineHead {
+    fn fmt<W: fmt::Write>(&self, f: &mut Formatter<W>) -> fmt::Result {
+        match (self.moment, self.peer) {
+            (Some(moment), Some(peer)) => write!(f, "{moment} {peer}: "),
+            (Some(moment), None) => write!(f, "{moment}: "),
+            (None, Some(peer)) => write!(f, "{peer}: "),
+            (None, None) => Ok(()),
+        }
+    }
 }
 
 /// What is told of requests.
@@ -25,15 +60,15 @@ struct PortLog<'a, R: Eprint + Clock> {
     taken: Option<LoggedRequest>,
 }
 
-/// A port over another one, which tells each request on standard error where it is logged: of which client and of which number, how
-/// it was answered, the bytes both ways, and how long that took. It does what that port does.
+/// A port over another one, which tells each request on standard error where it is logged: when, from where, of which client and of
+/// which number, how it was answered, the bytes both ways, and how long that took. It does what that port does.
 #[derive(Drop)]
-pub struct LoggedPort<'a, R: Eprint + Clock, P: Port + Drop> {
+pub struct LoggedPort<'a, R: Eprint + Clock, P: PeerPort + Drop> {
     log: PortLog<'a, R>,
     port: P,
 }
 
-impl<'a, R: Eprint + Clock, P: Port + Drop> LoggedPort<'a, R, P> {
+impl<'a, R: Eprint + Clock, P: PeerPort + Drop> LoggedPort<'a, R, P> {
     /// Tells what comes over the port, where it is logged. Each line begins with the program's name.
     pub fn new(rt: &'a R, program: &'static str, port: P, is_logged: bool) -> LoggedPort<'a, R, P>
         ensures { result.port ≡ port }
@@ -60,8 +95,16 @@ impl<'a, R: Eprint + Clock, P: Port + Drop> LoggedPort<'a, R, P> {
 }
 
 impl<'a, R: Eprint + Clock> PortLog<'a, R> {
-    /// Takes note of a frame, and tells where none could be taken.
-    fn take(&mut self, came: &Result<Option<Vec<u8>>, PortError>) {
+    /// What stands before a line about this peer that is told now.
+    fn line_head(&self, peer: Option<SocketAddr>) -> LineHead {
+        LineHead {
+            moment: moment_now(self.rt),
+            peer,
+        }
+    }
+
+    /// Takes note of a frame of this peer, and tells where none could be taken.
+    fn take(&mut self, came: &Result<Option<Vec<u8>>, PortError>, peer: Option<SocketAddr>) {
         if !self.is_logged {
             return;
         }
@@ -71,18 +114,23 @@ impl<'a, R: Eprint + Clock> PortLog<'a, R> {
             Ok(Some(frame)) => {
                 self.taken = Some(LoggedRequest {
                     head: head_of(frame.as_slice()),
+                    peer,
                     bytes: frame.len(),
                     at: Instant::now(self.rt).ok(),
                 });
             }
             Ok(None) => {}
             Err(PortError::Failed) => {
+                let line = self.line_head(peer);
                 let _ = eprintln!(self.rt;
-                    "{program}: a connection was lost before its request came"
+                    "{program}: {line}a connection was lost before its request came"
                 );
             }
             Err(PortError::Memory) => {
-                let _ = eprintln!(self.rt; "{program}: a request was lost for want of memory");
+                let line = self.line_head(peer);
+                let _ = eprintln!(self.rt;
+                    "{program}: {line}a request was lost for want of memory"
+                );
             }
         }
     }
@@ -94,6 +142,7 @@ impl<'a, R: Eprint + Clock> PortLog<'a, R> {
         };
         let (program, came, went) = (self.program, bytes(taken.bytes), bytes(frame.len()));
         let millis = self.millis_since(taken.at);
+        let line = self.line_head(taken.peer);
         let end = match sent {
             Ok(()) => "",
             Err(PortError::Failed) => ", and the connection was lost",
@@ -104,11 +153,11 @@ impl<'a, R: Eprint + Clock> PortLog<'a, R> {
                 let (client, number) = (request.client, request.number);
                 let (what, how) = (what_is_asked(request.kind), reply.kind);
                 eprintln!(self.rt;
-                    "{program}: client {client} {what} {number}: {how:?}, {came} bytes in, {went} out, {millis} ms{end}"
+                    "{program}: {line}client {client} {what} {number}: {how:?}, {came} bytes in, {went} out, {millis} ms{end}"
                 )
             }
             _ => eprintln!(self.rt;
-                "{program}: malformed, {came} bytes in, {went} out, {millis} ms{end}"
+                "{program}: {line}malformed, {came} bytes in, {went} out, {millis} ms{end}"
             ),
         };
     }
@@ -132,12 +181,13 @@ fn what_is_asked(kind: Kind) -> &'static str {
     if kind == Kind::Pull { "pull" } else { "entry" }
 }
 
-impl<'a, R: Eprint + Clock, P: Port + Drop> Port for LoggedPort<'a, R, P> {
+impl<'a, R: Eprint + Clock, P: PeerPort + Drop> Port for LoggedPort<'a, R, P> {
     ghost tells = { λ logged. P.tells logged.port };
 
     fn take(&mut self) -> Result<Option<Vec<u8>>, PortError> {
         let came = self.port.take();
-        self.log.take(&came);
+        let peer = self.port.peer();
+        self.log.take(&came, peer);
         came
     }
 

@@ -3,7 +3,7 @@ ghost use Rattle.std.specs.Prelude.{◌≡◌, ◌-◌, ◌*◌, ◌≤◌, ◌<
 ghost use Rattle.std.specs.Duration.{as_nanos};
 ghost use Rattle.std.specs.Io.{ReadsAtMost, WritesAtMost};
 ghost use Rattle.std.specs.Io.KnownBytes.{Keeps, ReadConsumes, WriteAppends};
-ghost use Rattle.paced_talks.specs.Window.{fresh, after_bytes, StartsBy, LeadsOn, MovesBytes, Lasts, HasWaited};
+ghost use Rattle.paced_talks.specs.Window.{fresh, sending, after_bytes, StartsBy, LeadsOn, MovesBytes, Lasts, HasWaited};
 
 use crate::telling::Teller;
 use paced_talks::{Window, is_passing};
@@ -49,6 +49,15 @@ impl<'a, S: Read + Write + OpenStream + Drop, C: Clock> Paced<'a, S, C> {
         ensures stream { self.new.stream ≡ self.old.stream }
     {
         self.window = Window::new(Instant::now(self.clock)?);
+        Ok(())
+    }
+
+    /// Starts the stream's time anew for so many bytes that go out.
+    pub(crate) fn begin_sending(&mut self, bytes: usize) -> io::Result<()>
+        ensures window { OnOk result (StartsBy (sending bytes) self.new.window) }
+        ensures stream { self.new.stream ≡ self.old.stream }
+    {
+        self.window = Window::sending(Instant::now(self.clock)?, bytes);
         Ok(())
     }
 

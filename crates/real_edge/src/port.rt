@@ -6,10 +6,11 @@ ghost use Rattle.real_edge.specs.Port.{connections};
 
 use crate::connections::Connections;
 use crate::faults::count_fault;
+use crate::logged_port::PeerPort;
 use outside::{Port, PortError};
 use std::alloc::Global;
 use std::io;
-use std::net::Net;
+use std::net::{Net, SocketAddr};
 use std::time::Clock;
 
 /// How many connections a port takes.
@@ -70,6 +71,12 @@ fn counted<T>(came: io::Result<T>, faults: &mut u64) -> Result<T, PortError>
             count_fault(faults);
             Err(PortError::Failed)
         }
+    }
+}
+
+impl<'a, N: Net + Clock> PeerPort for TcpPort<'a, N> {
+    fn peer(&self) -> Option<SocketAddr> {
+        self.connections.peer()
     }
 }
 

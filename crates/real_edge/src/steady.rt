@@ -3,7 +3,7 @@ ghost use Rattle.std.specs.Prelude.{◌≡◌, None, refl};
 ghost use Rattle.std.proofs.Common.{sym};
 ghost use Rattle.std.proofs.lemmas.Option.{none-some};
 
-use crate::prompting::Prompting;
+use crate::prompting::{Noting, Prompting};
 use std::io::{Printer, Read, StdinLock, Write};
 
 /// A reader that tells contracts its bytes in each of its states, or in none. A contract of `Read` speaks of what is told alone: where
@@ -37,6 +37,11 @@ impl<'a, P: Eprint, R: SteadyRead + Drop> SteadyRead for Prompting<'a, P, R> {
 }
 
 /// Standard output tells none.
+impl<'a, P: Print> SteadyWrite for Noting<'a, P> {
+    ghost steady = { λ _ _ _. refl };
+}
+
+/// Nor does what is written to it alone.
 impl<P: Print> SteadyWrite for Printer<'_, P> {
     ghost steady = { λ _ _ _. refl };
 }

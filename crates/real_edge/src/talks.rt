@@ -5,7 +5,7 @@ use crate::watch::Watch;
 use paced_talks::{Answers, Gathering, Partings};
 use std::alloc::Global;
 use std::io;
-use std::net::{Net, OpenStream};
+use std::net::{Net, OpenStream, SocketAddr};
 use std::time::{Clock, Duration, Instant};
 
 /// For how many seconds the last answers go out once no connection more is taken. A peer that goes on reading slowly would else hold up
@@ -48,15 +48,15 @@ impl<'a, N: Net + Clock> Talks<'a, N> {
         self.gathering.has_place()
     }
 
-    /// Lets a connection in, or counts it as lost.
-    pub(crate) fn admit(&mut self, stream: N::Stream, now: Instant) {
+    /// Lets a connection of this peer in, or counts it as lost.
+    pub(crate) fn admit(&mut self, stream: N::Stream, peer: SocketAddr, now: Instant) {
         if stream.set_nonblocking(true).is_err() {
             drop(stream);
-            self.gathering.count_lost();
+            self.gathering.count_lost(peer);
             return;
         }
         self.watch.add(&stream);
-        let _counted = self.gathering.admit(stream, now);
+        let _counted = self.gathering.admit(stream, peer, now);
     }
 
     /// Has each connection do what can be done at once. Answers whether more may be.
@@ -66,14 +66,19 @@ impl<'a, N: Net + Clock> Talks<'a, N> {
         came || sent
     }
 
-    /// The first frame that is whole, with its connection.
-    pub(crate) fn take_whole(&mut self) -> Option<(N::Stream, Vec<u8>)> {
+    /// The first frame that is whole, with its connection and its peer.
+    pub(crate) fn take_whole(&mut self) -> Option<(N::Stream, Vec<u8>, SocketAddr)> {
         self.gathering.take_whole()
     }
 
     /// Takes note of a connection that was let go without a frame, and not told yet; answers whether there was one.
     pub(crate) fn take_lost(&mut self) -> bool {
         self.gathering.take_lost()
+    }
+
+    /// Whose connection that was, where it is known.
+    pub(crate) fn take_lost_peer(&mut self) -> Option<SocketAddr> {
+        self.gathering.take_lost_peer()
     }
 
     /// Sends an answer: as much as goes at once, and the rest beside others.

@@ -3,6 +3,7 @@ ghost use Rattle.std.specs.Prelude.{◌≡◌, ◌≤◌};
 ghost use Rattle.std.specs.Io.{ReadsAtMost, WritesAtMost};
 ghost use Rattle.std.specs.Io.KnownBytes.{Keeps, ReadConsumes, WriteAppends};
 
+use crate::missed::Missed;
 use std::io;
 use std::io::{Read, Write};
 use wire_frames::Head;
@@ -25,8 +26,8 @@ pub trait Teller {
     /// So many more bytes of the answer came.
     fn came(&mut self, bytes: usize);
 
-    /// The ask is over: with these bytes, which spell a reply to the request, or without.
-    fn end(&mut self, reply: Option<&[u8]>);
+    /// The ask at this address is over: with these bytes, which spell a reply to the request, or without, and why.
+    fn end(&mut self, address: &[u8], reply: Result<&[u8], &Missed>);
 }
 
 /// Tells nobody.
@@ -42,7 +43,7 @@ impl Teller for Untold {
 
     fn came(&mut self, _bytes: usize) {}
 
-    fn end(&mut self, _reply: Option<&[u8]>) {}
+    fn end(&mut self, _address: &[u8], _reply: Result<&[u8], &Missed>) {}
 }
 
 /// A stream of which each call is told.

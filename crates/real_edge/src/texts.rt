@@ -1,7 +1,7 @@
 // How numbers, paths and causes are told to people.
 use std::alloc::{AllocError, Global};
 use std::fmt::{self, Display, Formatter, Write};
-use vol_tree::Path;
+use vol_tree::{Content, Path};
 use wire_frames::{Cause, Kind};
 
 /// What the groups of three figures of a number count.
@@ -42,7 +42,7 @@ pub(crate) fn bytes(count: usize) -> Grouped {
 
 /// Bytes as text, of which a terminal shows each character in its place: what is no text, and what would steer it, is a `?`.
 #[derive(Clone, Copy, Debug, Drop)]
-struct Shown<'a>(&'a [u8]);
+pub(crate) struct Shown<'a>(pub(crate) &'a [u8]);
 
 impl<'a> Display for Shown<'a> {
     fn fmt<W: fmt::Write>(&self, f: &mut Formatter<W>) -> fmt::Result {
@@ -70,14 +70,45 @@ fn show_bytes<W: fmt::Write>(bytes: &[u8], f: &mut Formatter<W>) -> fmt::Result 
     Ok(())
 }
 
-/// A cause in words, with its path or its fault.
+/// What a command is said to read.
+#[derive(Debug, Drop)]
+pub(crate) enum Reads {
+    /// All that stands in its folder, which has this name.
+    Folder(Content),
+    /// What its options name.
+    Inputs,
+    /// That is not known.
+    Unknown,
+}
+
+impl Display for Reads {
+    fn fmt<W: fmt::Write>(&self, f: &mut Formatter<W>) -> fmt::Result {
+        match self {
+            Reads::Folder(folder) => write!(
+                f,
+                "what the command read in /{}; name what it reads by in=",
+                Shown(folder.bytes())
+            ),
+            Reads::Inputs => f.write_str("what its in= name"),
+            Reads::Unknown => f.write_str("what the command read"),
+        }
+    }
+}
+
+/// A cause in words, with its path or its fault, of a command that reads this.
 ///
 /// # Errors
 ///
 /// Where memory runs out.
-pub(crate) fn cause_text(alloc: Global, cause: &Cause) -> Result<String, AllocError> {
+pub(crate) fn cause_text(
+    alloc: Global,
+    cause: &Cause,
+    reads: &Reads,
+) -> Result<String, AllocError> {
     match cause {
-        Cause::OtherJob { .. } => String::from_str(alloc, "OtherJob"),
+        Cause::OtherJob { .. } => {
+            format!(in alloc; "OtherJob: the server has another version of {reads}")
+        }
         Cause::NoJob { code: 1, .. } => String::from_str(alloc, "NoJob folder"),
         Cause::NoJob { index, .. } => format!(in alloc; "NoJob input {index}"),
         Cause::NoServer => String::from_str(alloc, "NoServer"),

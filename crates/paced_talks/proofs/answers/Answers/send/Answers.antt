@@ -8,5 +8,12 @@ returns-clause-queued g c = λ none.
     let sent : ℕ = c.in-Ok.sent in
     let answer : List ℕ = c.args.answer.now in
     let rest : take (length answer - sent) (drop sent answer) ≡ drop sent answer =
-    take_all (length answer - sent) (drop sent answer) (omega (arith, length-drop sent answer)) in
-    (admitted.0, admitted.1, c.send_front.new.stream, sent, admitted.2, (admitted.3.0, admitted.3.1 ∙ rest, admitted.3.2, admitted.3.3), c.in-Ok.ensures.bytes)
+    take_all (length answer - sent) (drop sent answer) (omega (arith, length-drop sent answer)) in (
+      admitted.0,
+      admitted.1,
+      c.send_front.new.stream,
+      sent,
+      admitted.2,
+      (admitted.3.0, admitted.3.1 ∙ rest, admitted.3.2, admitted.3.3 ∙ c.sending.ensures),
+      c.in-Ok.ensures.bytes,
+    )
