@@ -120,11 +120,12 @@ module _ (seed count : ℕ) (low : count ≤ max_steps) (runner runner_now : InD
 
   none_pending : HasNoCollision 1 ran.goes.trace.entries new.packets → ran.after.client.log.pending ≡ []
   none_pending apart =
-      let is_own : new.client ≡ 1 = (in_world.leaves in_step apart).in_step.about in
+      let is_own : new.client ≡ 1 = (in_world.goes_on in_step apart).in_step.about in
       let own : AreAllOf 1 new.taken = subst (λ (client : ℕ). AreAllOf client new.taken) is_own rule.own in
+      let since : new.taken ≡ old.taken ++ new.taken = sym (ap (λ (world : World). world.taken ++ new.taken) made.world) in
       last_syncs_complete 1 drill_route new_log around around_now (front seed count low) ran
       (subst (λ (read : List (Result Line LineError)). Chain drill_route (opened 1 new_log) read ran.answers ran.after ran.goes.trace) (ends_in_sync seed count low) chain)
-      unfailed in_step apart served own
+      unfailed in_step apart served new.taken since own
 
   -- where contents are distinct, nothing is pending
   pub complete : Distinct (IsSketchable [] ran.goes.trace.runs) (IsOfPackets net_now.wires.packets) → worked.pending ≡ 0

@@ -2,12 +2,12 @@
 use Rattle.std.proofs.Common.{◌≡◌, inl, inr, ℕ, ◌+◌, ◌<◌, Bool, true, false, List, [], ◌∷◌, ◌++◌, Option, None, Some, is_some, Result, Ok, refl, sym, ◌∙◌, ap, subst, arith, append_assoc}
 use Rattle.std.proofs.lemmas.List.{append-nil}
 use Rattle.tree_values.specs.Tree.{Volume, version_at}
-use Rattle.tree_values.specs.Lists.{IsIn}
 use Rattle.mod_log.specs.Log.{Log, tree_at}
 use Rattle.wire_frames.specs.declared.message.Message.{Message}
 use Rattle.wire_frames.specs.declared.message.Message.TheVariants as messages
 use Rattle.world_rules.specs.declared.asking.Ask.{Ask}
 use Rattle.world_rules.specs.declared.asking.Peer.TheVariants.{Server}
+use Rattle.world_rules.specs.Served.{TakenEntry}
 use Rattle.world_rules.specs.World.{World}
 use Rattle.world_rules.specs.Asking.{AnswersStand}
 use Rattle.world_rules.specs.Settling.{failures}
@@ -30,9 +30,9 @@ use Rattle.shell_lang.specs.declared.line.LineError.{LineError}
 use Rattle.shell_lang.specs.declared.answer.LineAnswer.{LineAnswer}
 use Rattle.client_session.specs.Session.{SessionState, opened, Chain}
 use Rattle.client_session.proofs.Changing.{line_number}
-use Rattle.client_lines.specs.Headline.{last_taken, Leaves, Around, Ran}
+use Rattle.client_lines.specs.Headline.{last_taken, Leaves, MayGoOn, Around, Ran}
 use Rattle.client_lines.specs.Completing.{EndInFailures, LastSyncsComplete}
-use Rattle.client_lines.proofs.RunningLeaves.{leaves}
+use Rattle.client_lines.proofs.RunningLeaves.{leaves, goes_on}
 
 -- ---- the last line
 
@@ -71,9 +71,10 @@ last_line route before (line ∷ front) answers after trace chain =
 
 -- ---- how it ends
 
-in_behind : {X : Type 0} (x : X) (xs ys : List X) → IsIn x ys → IsIn x (xs ++ ys)
-in_behind x [] ys among = among
-in_behind x (y ∷ xs) ys among = inr (in_behind x xs ys among)
+-- what stands behind the same is the same
+same_behind : {X : Type 0} (xs ys zs : List X) → xs ++ ys ≡ xs ++ zs → ys ≡ zs
+same_behind [] ys zs is = is
+same_behind (x ∷ xs) ys zs is = let rest : xs ++ ys ≡ xs ++ zs = cc is in same_behind xs ys zs rest
 
 stands_behind : (world : World) (xs ys : List Ask) → AnswersStand world (xs ++ ys) → AnswersStand world ys
 stands_behind world [] ys all = all
@@ -142,22 +143,25 @@ module _ (client : ℕ) (route : Route) (start : Log) (around around_now : Aroun
   kept_is : ran.kept ≡ log
   kept_is = ran.kept_last (λ five. omega (arith, five)) (λ seven. omega (arith, seven)) ∙ sym ran.goes.keeping.last
 
-  in_worlds : (x y : World) → Goes x y → InStep client start x → HasNoCollision client (start.pending ++ trace.entries) y.packets → x.served.volume ≡ tree_at (last_taken client x) start → AreAllOf client y.taken → log.pending ≡ []
-  in_worlds x y goes begun apart served own =
+  in_worlds : (x y : World) → Goes x y → InStep client start x → HasNoCollision client (start.pending ++ trace.entries) y.packets → x.served.volume ≡ tree_at (last_taken client x) start
+      → (taken : List TakenEntry) → y.taken ≡ x.taken ++ taken → AreAllOf client taken → log.pending ≡ []
+  in_worlds x y goes begun apart served taken since own =
       let all : Leaves client start log ran.kept trace.entries x y = leaves client (is_some route.surrogate) trace.entries trace.asks start log ran.kept x y begun goes.runs apart in
+      let next : MayGoOn client log ran.kept y = goes_on client (is_some route.surrogate) trace.entries trace.asks start log ran.kept x y begun goes.runs apart in
       let answered : AnswersStand y trace.asks = run_answers client (is_some route.surrogate) trace.entries trace.asks (kept_at start x) (stand log ran.kept y) goes.runs in
       let sync : EndsBySync route (opened client start) ran.after trace = last_line route (opened client start) front ran.answers ran.after trace chain in
       let same : y.served.volume ≡ tree_at (last_taken client y) log =
-      all.alone served (λ entry among. own entry (subst (IsIn entry) (sym all.since) (in_behind entry x.taken all.taken among)))
+      all.alone served (subst (AreAllOf client) (same_behind x.taken taken all.taken (sym since ∙ all.since)) own)
       ∙ ap (λ (l : Log). tree_at (last_taken client y) l) kept_is in
       let turn : SyncTurn client route sync.middle.client.log sync.end log sync.last = subst (λ (n : ℕ). SyncTurn n route sync.middle.client.log sync.end log sync.last) sync.number sync.turn in
       let stands : AnswersStand y sync.last.asks = stands_behind y sync.earlier sync.last.asks (subst (AnswersStand y) sync.asks answered) in
       complete client route sync.middle.client.log log sync.last y same
       (λ failed. unfailed (sync.earlier ++ failed.0, failed.1, sync.asks ∙ ap (λ (ys : List Ask). sync.earlier ++ ys) failed.2 ∙ sym (append_assoc sync.earlier failed.0 (failures Server route.server failed.1 8))))
-      sync.end turn (sync_true client route sync.middle.client.log log sync.end sync.last y turn stands all.in_memory)
+      sync.end turn (sync_true client route sync.middle.client.log log sync.end sync.last y turn stands next.in_memory)
 
 pub last_syncs_complete : LastSyncsComplete
 last_syncs_complete client route start around around_now front ran chain unfailed =
     told_as around.link.world around_now.link.world (WorldGoes client (is_some route.surrogate) start ran.after.client.log ran.kept ran.goes.trace around.link.troubles around_now.link.troubles)
-    (λ (x y : World). InStep client start x → HasNoCollision client (start.pending ++ ran.goes.trace.entries) y.packets → x.served.volume ≡ tree_at (last_taken client x) start → AreAllOf client y.taken → ran.after.client.log.pending ≡ [])
+    (λ (x y : World). InStep client start x → HasNoCollision client (start.pending ++ ran.goes.trace.entries) y.packets → x.served.volume ≡ tree_at (last_taken client x) start
+    → (taken : List TakenEntry) → y.taken ≡ x.taken ++ taken → AreAllOf client taken → ran.after.client.log.pending ≡ [])
     ran.goes.told (in_worlds client route start around around_now front ran chain unfailed)

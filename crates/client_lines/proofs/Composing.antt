@@ -33,7 +33,7 @@ use Rattle.client_core.specs.Trace.{Trace, nothing, last_log, log_before_last, I
 use Rattle.client_core.specs.Logging.{local_entry, LocalTurn}
 use Rattle.client_core.specs.Causes.{AcknowledgesSome}
 use Rattle.client_core.specs.Syncing.{Acknowledges, EndsSync, SyncTurn, BreaksTurn, BreaksSync}
-use Rattle.client_core.specs.Pulling.{PullsSnapshot, PullTurn}
+use Rattle.client_core.specs.Pulling.{PullChanges, PullsSnapshot, PullTurn}
 use Rattle.client_core.specs.Goes.{WorldGoes, stand}
 use Rattle.client_core.proofs.Acknowledging.{turn_some}
 use Rattle.client_core.proofs.Locals.{appended-is}
@@ -50,7 +50,7 @@ use Rattle.client_session.proofs.Acknowledged.{acknowledging_so}
 use Rattle.client_lines.specs.Run.{asked_for, Handles, WholeRun}
 use Rattle.client_lines.specs.Composing.{StaysOf, LeaveTogether, RunsCompose, StoresNeverCollide}
 use Rattle.client_lines.specs.Headline.{Around, Ran}
-use Rattle.client_lines.proofs.RunningLeaves.{leaves}
+use Rattle.client_lines.proofs.RunningLeaves.{leaves, goes_on}
 
 -- ---- how many entries a log has known
 
@@ -151,9 +151,13 @@ module _ (client : ℕ) (route : Route) where
 snapshot_knows : (client : ℕ) (route : Route) (before : Log) (end : PullEnd) (after : Log) (trace : Trace) → PullsSnapshot client route before end after trace → AtMostOne before after trace.changes
 snapshot_knows client route before (Pulled count) after trace turn =
     let same : last_number after ≡ last_number before = ap last_number turn.met.3 in
-    inl (subst (λ (t : Trace). KnowAll (last_number before) t.changes) (sym turn.trace_is) (same, tt), same)
-snapshot_knows client route before (OtherLast last acked) after trace turn = still before after trace.changes turn.met.3 (ap (λ (t : Trace). t.changes) turn.trace_is)
-snapshot_knows client route before (Older path theirs ours) after trace turn = still before after trace.changes turn.met.4 (ap (λ (t : Trace). t.changes) turn.trace_is)
+    inl (subst (λ (t : Trace). KnowAll (last_number before) t.changes) (sym turn.trace_is) (changes_know turn.changes same turn.changed), same)
+  where
+    changes_know : (changes : List Log) → last_number after ≡ last_number before → PullChanges before turn.seen (Pulled count) after changes → KnowAll (last_number before) changes
+    changes_know changes same (inl kept) = subst (λ (list : List Log). KnowAll (last_number before) list) (sym kept.1) tt
+    changes_know changes same (inr more) = subst (λ (list : List Log). KnowAll (last_number before) list) (sym more.1) (same, tt)
+snapshot_knows client route before (OtherLast last acked) after trace turn = still before after trace.changes turn.met.3 (ap (λ (t : Trace). t.changes) turn.trace_is ∙ turn.changed)
+snapshot_knows client route before (Older path theirs ours) after trace turn = still before after trace.changes turn.met.4 (ap (λ (t : Trace). t.changes) turn.trace_is ∙ turn.changed)
 snapshot_knows client route before (Pending count) after trace turn = absurd turn.met
 snapshot_knows client route before Unanswered after trace turn = absurd turn.met
 snapshot_knows client route before KeepFault after trace turn = absurd turn.met
@@ -388,6 +392,8 @@ module _ (client : ℕ) (route other_route : Route) (start : Log) (around around
         stayed = part.0;
         stays = stays client true route start around around_now status first old middle part.0 part.1 went part.2 part.3 in_step first_apart;
         leaves = leaves client true (part.0 ++ does.entries) (did.asks ++ does.asks) start second.after.client.log second.kept old new in_step
+            (joined client true start last kept did.entries does.entries did.asks does.asks old middle begun end went alone goes) both_apart;
+        goes_on = goes_on client true (part.0 ++ does.entries) (did.asks ++ does.asks) start second.after.client.log second.kept old new in_step
             (joined client true start last kept did.entries does.entries did.asks does.asks old middle begun end went alone goes) both_apart;
       }
 

@@ -17,8 +17,9 @@ use Rattle.world_rules.proofs.Runs.{new_in_step, runs_in_step, runs_more, runs_t
 use Rattle.world_rules.proofs.Operations.{never_collides}
 use Rattle.world_rules.proofs.Restarts.{restart_runs, alone_runs}
 use Rattle.client_core.specs.Goes.{WorldGoes, IsNew, stand}
-use Rattle.client_lines.specs.FirstRuns.{ToldRun, AreInRow, logged_in, StayOfAll, ShipStores, FirstRunsLeave, FirstStoresNeverCollide}
-use Rattle.client_lines.proofs.RunningLeaves.{leaves}
+use Rattle.client_lines.specs.FirstRuns.{ToldRun, AreInRow, logged_in, StayOfAll, ShipStores, FirstRunsLeave, FirstRunsGoOn, FirstStoresNeverCollide}
+use Rattle.client_lines.specs.Headline.{Leaves, MayGoOn}
+use Rattle.client_lines.proofs.RunningLeaves.{leaves, goes_on}
 use Rattle.client_lines.proofs.Composing.{among_first, part_apart, stays}
 
 in_told : {A : Type 0} (a b : Option A) (P : A → A → Type 0) (x y : A) → a ≡ Some x → b ≡ Some y → Told a b P → P x y
@@ -170,8 +171,12 @@ may_all client (run ∷ runs) = ((λ some. refl), may_all client runs)
 begins : (client : ℕ) (old : World) → IsNew client old → InStep client new_log old
 begins client old new = new_in_step client old new.about new.own_number.0 new.own_number.1 new.served_is new.untaken new.unsent
 
-pub first_runs_leave : FirstRunsLeave
-first_runs_leave client earlier later middle kept old between new is row rows none =
+-- what the runs leave, and that a next one may begin there
+runs_leave : (client : ℕ) (earlier later : List (ToldRun client)) (middle kept : Log) (old between new : World) → IsNew client old
+    → AreInRow client new_log old earlier middle between → AreInRow client middle between later kept new
+    → HasNoCollision client (logged_in client earlier ++ logged_in client later) new.packets
+    → ((stayed : List Entry) × StayOfAll client later stayed × Leaves client middle kept kept stayed between new) × MayGoOn client kept kept new
+runs_leave client earlier later middle kept old between new is row rows none =
     let before : List Entry = logged_in client earlier in
     let behind : List Entry = logged_in client later in
     let now : InStep client new_log old = begins client old is in
@@ -189,8 +194,18 @@ first_runs_leave client earlier later middle kept old between new is row rows no
     (λ entry among. ⊎_elim (λ pends. was entry pends) (λ logs. IsIn-right entry before behind logs) (in_either entry middle.pending behind among)) rows in
     let apart : HasNoCollision client (middle.pending ++ second.stayed) new.packets =
     fewer_collide client (middle.pending ++ second.stayed) (before ++ behind) new.packets new.packets
-    (λ entry among. ⊎_elim (λ pends. was entry pends) (λ logs. IsIn-right entry before behind (second.logged entry logs)) (in_either entry middle.pending second.stayed among)) (λ message among. among) none in
-    (second.stayed, second.stay, leaves client true second.stayed second.asks middle kept kept between new begun second.goes apart)
+    (λ entry among. ⊎_elim (λ pends. was entry pends) (λ logs. IsIn-right entry before behind (second.logged entry logs)) (in_either entry middle.pending second.stayed among)) (λ message among. among) none in (
+      (second.stayed, second.stay, leaves client true second.stayed second.asks middle kept kept between new begun second.goes apart),
+      goes_on client true second.stayed second.asks middle kept kept between new begun second.goes apart,
+    )
+
+pub first_runs_leave : FirstRunsLeave
+first_runs_leave client earlier later middle kept old between new is row rows none =
+    (runs_leave client earlier later middle kept old between new is row rows none).0
+
+pub first_runs_go_on : FirstRunsGoOn
+first_runs_go_on client earlier later middle kept old between new is row rows none =
+    (runs_leave client earlier later middle kept old between new is row rows none).1
 
 -- without surrogates each run ships stores alone
 stores_all : (client : ℕ) (runs : List (ToldRun client)) → ShipStores client runs → AllMayShip client false runs

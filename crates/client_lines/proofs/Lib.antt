@@ -14,5 +14,6 @@ pub mod RunningOpened
 pub mod RunningPeers
 pub mod RunningPieces
 pub mod RunningRecords
+pub mod RunningTrees
 pub mod Completing
 pub mod SoFar

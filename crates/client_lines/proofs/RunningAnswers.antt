@@ -1,5 +1,5 @@
 -- What a run answers where its log was in step when it began.
-use Rattle.std.proofs.Common.{◌≡◌, inl, inr, ⊎_elim, ℕ, zero, suc, ◌+◌, ◌*◌, ◌≤◌, List, [], ◌∷◌, ◌++◌, Option, Some, Result, Ok, Err, refl, sym, ap, subst, arith}
+use Rattle.std.proofs.Common.{true, ◌≡◌, inl, inr, ⊎_elim, ℕ, zero, suc, ◌+◌, ◌*◌, ◌≤◌, List, [], ◌∷◌, ◌++◌, Option, Some, Result, Ok, Err, refl, sym, ap, subst, arith}
 use Rattle.std.proofs.lemmas.List.{append-nil}
 use Rattle.std.specs.List.{count_by}
 use Rattle.outside.specs.Outside.{RoseBy, Rose}
@@ -23,7 +23,7 @@ use Rattle.shell_lang.specs.declared.answer.LineAnswer.TheVariants.{Behind}
 use Rattle.client_session.specs.Session.{SessionState, Chain, BreaksChain, LeavesPending, is_unrun, is_unanswered}
 use Rattle.client_session.proofs.Counted.{unrun_lines_are_counted}
 use Rattle.client_session.proofs.Pulls.{IsRefusedPull, IsOfPull, session_pulls}
-use Rattle.client_session.proofs.Answered.{Stand, Gapless, Unrefused, IsPast, stand_parts, never_behind, all_synced, unanswered_lines_cost_asks}
+use Rattle.client_session.proofs.Answered.{Stand, Gapless, Unrefused, IsPast, stand_parts, never_behind, all_unrefused, unanswered_lines_cost_asks}
 use Rattle.client_lines.specs.declared.input.InputEnd.{InputEnd}
 use Rattle.client_lines.specs.declared.run.Stop.{Stop}
 use Rattle.client_lines.specs.declared.run.Stop.TheVariants.{Sink, Keeper, Memory}
@@ -105,10 +105,15 @@ module _ (client : ℕ) (route : Route) (before after : SessionState) (kept : Lo
       never_behind world.packets client (gapless client log world now) route before session.0 answers session.1 session.2 session.4 number (stand_parts world.packets session.2.asks session.3.asks all).0
       (Some (Behind seq last)) among (seq, last, refl)
 
-  pub synced : (from : ℕ) → Unrefused client from world.packets → IsPast from before.client.log → failed_asks trace.asks ≡ 0 → (answer : Option LineAnswer) → IsIn answer answers → LeavesPending answer → ⊥
-  synced from none past calm answer among leaves =
+  -- where nothing refuses an entry, a sync that leaves some pending is answered `unanswered`, and cost eight asks that failed
+  pub unrefused : (from : ℕ) → Unrefused client from world.packets → IsPast from before.client.log → (answer : Option LineAnswer) → IsIn answer answers → LeavesPending answer
+      → (is_unanswered answer ≡ true) × (8 ≤ failed_asks trace.asks)
+  unrefused from none past answer among leaves =
       let session = session_of route before after kept answers trace left rest o n ended turn in
       let all : Stand world.packets (session.2.asks ++ session.3.asks) = subst (Stand world.packets) session.5 (stands world trace.asks stand) in
-      let sum : failed_asks (session.2.asks ++ session.3.asks) ≡ 0 = subst (λ (asks : List Ask). failed_asks asks ≡ 0) session.5 calm in
-      all_synced world.packets client from (gapless client log world now) none route before session.0 answers session.1 session.2 session.4 number past
-      (stand_parts world.packets session.2.asks session.3.asks all).0 (omega (arith, sum, failed-append session.2.asks session.3.asks)) answer among leaves
+      let told = all_unrefused world.packets client from (gapless client log world now) none route before session.0 answers session.1 session.2 session.4 number past
+      (stand_parts world.packets session.2.asks session.3.asks all).0 answer among leaves in
+      (told.0, omega (arith, told.1, ap failed_asks session.5, failed-append session.2.asks session.3.asks))
+
+  pub synced : (from : ℕ) → Unrefused client from world.packets → IsPast from before.client.log → failed_asks trace.asks ≡ 0 → (answer : Option LineAnswer) → IsIn answer answers → LeavesPending answer → ⊥
+  synced from none past calm answer among leaves = omega (arith, calm, (unrefused from none past answer among leaves).1)

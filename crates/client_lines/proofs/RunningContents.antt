@@ -17,7 +17,7 @@ use Rattle.client_lines.specs.declared.run.Stop.{Stop}
 use Rattle.client_lines.specs.declared.run.Stop.TheVariants.{Sink, Keeper, Memory}
 use Rattle.client_lines.specs.Run.{asked_for, HandlesAll, Handles, WholeRun}
 use Rattle.client_lines.specs.Contents.{IsSketchable, DistinctContentsNeverCollide, DistinctContentsLeave}
-use Rattle.client_lines.specs.Headline.{Leaves, Around, WorldRan, Ran}
+use Rattle.client_lines.specs.Headline.{Leaves, MayGoOn, Around, WorldRan, Ran}
 
 module _ (route : Route) (before after : SessionState) (kept : Log) (answers : List (Option LineAnswer)) (trace : Trace) where
   all_written : (lines : List (List ℕ)) → HandlesAll route before lines answers after kept trace → WriteWhatIsLeft trace
@@ -52,5 +52,7 @@ contents_never_collide client route start around around_now status ran =
 pub contents_leave : DistinctContentsLeave
 contents_leave client route start around around_now status ran =
     told_as around.link.world around_now.link.world (InWorlds client route start around around_now status ran)
-    (λ old new. InStep client start old → Distinct (IsSketchable start.pending ran.goes.trace.runs) (IsOfPackets new.packets) → Leaves client start ran.after.client.log ran.kept ran.goes.trace.entries old new) ran.told
-    (λ old new did now distinct. did.leaves now (distinct_apart client route start around around_now status ran new.packets distinct))
+    (λ old new. InStep client start old → Distinct (IsSketchable start.pending ran.goes.trace.runs) (IsOfPackets new.packets) → Leaves client start ran.after.client.log ran.kept ran.goes.trace.entries old new × MayGoOn client ran.after.client.log ran.kept new) ran.told
+    (λ old new did now distinct.
+    let apart = distinct_apart client route start around around_now status ran new.packets distinct in
+    (did.leaves now apart, did.goes_on now apart))

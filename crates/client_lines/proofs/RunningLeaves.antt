@@ -22,33 +22,38 @@ use Rattle.client_core.specs.declared.route.Route.{Route}
 use Rattle.client_core.specs.Trace.{Trace}
 use Rattle.client_core.specs.Keeping.{IsKept}
 use Rattle.client_core.specs.Goes.{WorldGoes, Goes, stand}
-use Rattle.client_core.specs.Noting.{AreRecorded, ReplacesNone}
+use Rattle.client_core.specs.Noting.{AreRecorded, TakesNoRows}
 use Rattle.client_core.proofs.Going.{goes_none}
 use Rattle.shell_lang.specs.declared.answer.LineAnswer.{LineAnswer}
 use Rattle.shell_lang.specs.declared.answer.LineAnswer.TheVariants.{OtherLast, Older}
 use Rattle.client_session.specs.Session.{SessionState, opened}
 use Rattle.client_lines.specs.Run.{status_of, Handles, WholeRun}
 use Rattle.client_lines.specs.InsideRun.{RunAnswers}
-use Rattle.client_lines.specs.Headline.{Leaves, Around, WorldRan, Ran}
+use Rattle.client_lines.specs.Headline.{Leaves, MayGoOn, Around, WorldRan, Ran}
 use Rattle.client_session.proofs.Answered.{log_past}
 use Rattle.client_session.proofs.Pulls.{answers_no_other, answers_no_older}
-use Rattle.client_lines.proofs.RunningAnswers.{unbehind, synced, none_failed, few_unrun, unrun_rose, few_unanswered, unanswered_rose, pull_of_run}
+use Rattle.client_lines.proofs.RunningAnswers.{unbehind, unrefused, synced, none_failed, few_unrun, unrun_rose, few_unanswered, unanswered_rose, pull_of_run}
 use Rattle.client_lines.proofs.RunningEnds.{run_nothing}
-use Rattle.client_lines.proofs.RunningPeers.{run_peers}
+use Rattle.client_lines.proofs.RunningPeers.{run_peers, run_licensed}
+use Rattle.client_lines.proofs.RunningTrees.{run_pulls_nothing, run_unrefused}
 
 module _ (client : ℕ) (ships : Bool) (entries : List Entry) (asks : List Ask) (start last kept : Log) (old new : World) where
+  -- so that the next one may begin there
+  pub goes_on : InStep client start old → Runs client ships entries asks (kept_at start old) (stand last kept new) → HasNoCollision client (start.pending ++ entries) new.packets → MayGoOn client last kept new
+  goes_on now runs none =
+      let end : AreInStep client (stand last kept new) = both_in_step client ships entries asks (kept_at start old) (stand last kept new) (record { in_memory = now; kept = now }) runs (kept_none client entries (kept_at start old) (stand last kept new) refl none) in
+      record { in_step = end.kept; in_memory = end.in_memory }
+
   pub leaves : InStep client start old → Runs client ships entries asks (kept_at start old) (stand last kept new) → HasNoCollision client (start.pending ++ entries) new.packets → Leaves client start last kept entries old new
   leaves now runs none =
       let both : AreInStep client (kept_at start old) = record { in_memory = now; kept = now } in
-      let end : AreInStep client (stand last kept new) = both_in_step client ships entries asks (kept_at start old) (stand last kept new) both runs (kept_none client entries (kept_at start old) (stand last kept new) refl none) in
+      let next : MayGoOn client last kept new = goes_on now runs none in
       record {
         taken = taken_in runs.moves (kept_at start old);
         since = run_taken client ships entries asks (kept_at start old) (stand last kept new) runs;
-        in_step = end.kept;
-        in_memory = end.in_memory;
-        not_lower = end.kept.not_lower;
-        not_higher = end.kept.not_higher.at_most_ahead;
-        within = end.kept.not_higher.at_most_logged;
+        not_lower = next.in_step.not_lower;
+        not_higher = next.in_step.not_higher.at_most_ahead;
+        within = next.in_step.not_higher.at_most_logged;
         pending = (pending_later client ships entries asks (kept_at start old) (stand last kept new) now runs none).1;
         once = entries_in_order client ships entries asks (kept_at start old) (stand last kept new) now runs none;
         spared = λ path same spare. path_is_kept client ships entries asks (kept_at start old) (stand last kept new) path both refl runs same spare none;
@@ -72,7 +77,7 @@ module _ (route : Route) (before after : SessionState) (left rest o n : Option (
 abbrev pub RunRecords : Route → SessionState → Option (List ℕ) → Option (List ℕ) → Option (List ℕ) → Option (List ℕ) → Result InputEnd Stop → SessionState → Option Images → Option Images → Log → Trace → Type 0
 RunRecords route before left rest o n ended after i j kept trace =
     RunAnswers route before left rest o n ended after kept trace
-    × IfOk ended (λ end. ReplacesNone trace → Told i j (λ images now. AreRecorded before.client.number trace.changes (images route.image) (now route.image)))
+    × IfOk ended (λ end. TakesNoRows trace → Told i j (λ images now. AreRecorded before.client.number trace.changes (images route.image) (now route.image)))
 
 recorded : (ended : Result InputEnd Stop) (status : ℕ) (K : Type 0) → status ≡ status_of ended → IfOk ended (λ end. K) → status ≢ 4 → status ≢ 5 → status ≢ 7 → K
 recorded (Ok end) status K is kept sink keeper memory = kept
@@ -105,6 +110,7 @@ module _ (client : ℕ) (route : Route) (start : Log) (around around_now : Aroun
       unoperated = λ none now sketched among. operated_before client trace.entries trace.asks (kept_at start x) (stand after.client.log kept y) sketched now.about (by_stores none) among;
       apart = λ none now unsent. never_collides client trace.entries trace.asks (kept_at start x) (stand after.client.log kept y) (start.pending ++ trace.entries) now.about unsent (by_stores none);
       leaves = λ now apart. leaves client (is_some route.surrogate) trace.entries trace.asks start after.client.log kept x y now goes.runs apart;
+      goes_on = λ now apart. goes_on client (is_some route.surrogate) trace.entries trace.asks start after.client.log kept x y now goes.runs apart;
       honest = λ now apart.
           unbehind client route (opened client start) after kept answers trace around.left around_now.left around.written around_now.written ended after.client.log y refl (at_end now apart) answers_stand turn;
       same_last = λ now apart last among.
@@ -117,6 +123,11 @@ module _ (client : ℕ) (route : Route) (start : Log) (around around_now : Aroun
           synced client route (opened client start) after kept answers trace around.left around_now.left around.written around_now.written ended after.client.log y refl (at_end now apart) answers_stand turn start.acked
           (lone_unrefused client (is_some route.surrogate) trace.entries trace.asks (kept_at start x) (stand after.client.log kept y) now goes.runs own_only same apart)
           (log_past start now.log_is) (none_failed (failed_asks trace.asks) t u rose quiet);
+      complete = λ now apart replaced unahead answer among pending.
+          let pulled = run_pulls_nothing route (opened client start) after kept answers trace replaced around.left around_now.left around.written around_now.written ended turn in
+          (unrefused client route (opened client start) after kept answers trace around.left around_now.left around.written around_now.written ended after.client.log y refl (at_end now apart) answers_stand turn start.acked
+          (run_unrefused client (is_some route.surrogate) trace.entries trace.asks start after.client.log kept x y now goes.runs apart pulled unahead)
+          (log_past start now.log_is) answer among pending).0;
     }
 
   pub ran : (ended : Result InputEnd Stop) (after : SessionState) (kept : Log) (status : ℕ) → status ≡ status_of ended
@@ -134,13 +145,15 @@ module _ (client : ℕ) (route : Route) (start : Log) (around around_now : Aroun
         kept_last = λ other more.
             kept_at_end route (opened client start) after around.left around_now.left around.written around_now.written kept ended answers goes.trace (λ five. absurd (other (is ∙ five))) (λ seven. absurd (more (is ∙ seven))) goes.turn.0.1
             ∙ goes.keeping.last;
-        records = recorded ended status (ReplacesNone goes.trace → Told around.images around_now.images (λ images now. AreRecorded client goes.trace.changes (images route.image) (now route.image))) is goes.turn.1;
+        records = recorded ended status (TakesNoRows goes.trace → Told around.images around_now.images (λ images now. AreRecorded client goes.trace.changes (images route.image) (now route.image))) is goes.turn.1;
         unrun = unrun_rose answers goes.trace around.runner around_now.runner
             (few_unrun route (opened client start) after kept answers goes.trace around.left around_now.left around.written around_now.written ended goes.turn.0.1) goes.has_run;
         unanswered = unanswered_rose answers goes.trace around.link.troubles around_now.link.troubles
             (few_unanswered route (opened client start) after kept answers goes.trace around.left around_now.left around.written around_now.written ended goes.turn.0.1) goes.rose;
         peers = λ ask among.
             run_peers route (opened client start) after kept answers goes.trace ask among around.left around_now.left around.written around_now.written ended goes.turn.0.1;
+        licensed = λ log.
+            run_licensed route (opened client start) after kept answers goes.trace log around.left around_now.left around.written around_now.written ended goes.turn.0.1;
         told = told_as around.link.world around_now.link.world (WorldGoes client (is_some route.surrogate) start after.client.log kept goes.trace around.link.troubles around_now.link.troubles)
             (WorldRan client route start after.client.log kept goes.trace answers around.link.troubles around_now.link.troubles) goes.told
             (λ x y. world_ran ended answers after kept goes.trace goes.turn.0.1 around.link.troubles around_now.link.troubles goes.rose x y);

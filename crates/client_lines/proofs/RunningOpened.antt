@@ -7,7 +7,7 @@ use Rattle.mod_log.specs.Log.{Log}
 use Rattle.world_rules.proofs.Asks.{told_start}
 use Rattle.client_core.specs.Client.{Client}
 use Rattle.client_core.specs.Keeping.{IsKept, TellsKept, IsKeptOfNone}
-use Rattle.client_core.specs.Noting.{AreRecorded, ReplacesNone}
+use Rattle.client_core.specs.Noting.{AreRecorded, TakesNoRows}
 use Rattle.client_lines.specs.declared.input.InputEnd.{InputEnd}
 use Rattle.client_lines.specs.declared.input.InputEnd.TheVariants.{Read, Failed, TooLong}
 use Rattle.client_lines.specs.Limits.{max_input}
@@ -109,7 +109,7 @@ opened_from run client i j left rest o n ended after status t u number new is we
     (RunRecords route (opened client.number client.log) left rest o n ended now i j) (opened client.number client.log) now i j t u went
     (λ k trace both behind. (
       both.0,
-      kept_so ended (NotesChanges route.image client after.client i j trace) (ReplacesNone trace → Told i j (λ images later. AreRecorded client.number trace.changes (images route.image) (later route.image)))
+      kept_so ended (NotesChanges route.image client after.client i j trace) (TakesNoRows trace → Told i j (λ images later. AreRecorded client.number trace.changes (images route.image) (later route.image)))
           (λ noted. notes_recorded route.image client after.client i j trace new noted) both.1,
     )) in
     let goes : WentDoing route (RunRecords route (opened run.client client.log) left rest o n ended now i j) (opened run.client client.log) now i j t u =

@@ -11,7 +11,7 @@ use Rattle.client_core.specs.declared.pulling.PullEnd.TheVariants.{Pulled}
 use Rattle.client_core.specs.Client.{Client}
 use Rattle.client_core.specs.Trace.{Trace, nothing, followed, IsLastOrBefore}
 use Rattle.client_core.specs.Keeping.{IsKept}
-use Rattle.client_core.specs.Noting.{logs_behind, AreRecorded, ReplacesNone, KeepsRecords, KeepsChanges}
+use Rattle.client_core.specs.Noting.{logs_behind, AreRecorded, TakesNoRows, KeepsRecords, KeepsChanges}
 use Rattle.client_core.proofs.Noting.{changes_same, changes_then, recorded_from_none}
 use Rattle.shell_lang.specs.declared.line.Line.{Line}
 use Rattle.shell_lang.specs.declared.line.LineError.{LineError}
@@ -47,7 +47,7 @@ module _ (name : List ℕ) where
 
   -- from a client without a journal on
   pub notes_recorded : (x y : Client) (i j : Option Images) (trace : Trace) → x.journal ≡ None → NotesChanges name x y i j trace
-      → ReplacesNone trace → Told i j (λ old new. AreRecorded x.number trace.changes (old name) (new name))
+      → TakesNoRows trace → Told i j (λ old new. AreRecorded x.number trace.changes (old name) (new name))
   notes_recorded x y i j trace start noted none =
       told_as i j (λ old new. (notes : List ClientRecord) × (trace.changes ≡ logs_behind x.log notes) × KeepsRecords name x y notes old new)
       (λ old new. AreRecorded x.number trace.changes (old name) (new name)) (noted none) (λ old new all. recorded_from_none name x y all.0 trace.changes old new start all.1 all.2)

@@ -7,6 +7,7 @@ use Rattle.world_rules.specs.declared.asking.Peer.TheVariants.{Server}
 use Rattle.world_rules.specs.Settling.{failures}
 use Rattle.world_rules.specs.Telling.{ToldWorlds}
 use Rattle.world_rules.specs.InStep.{InStep, HasNoCollision}
+use Rattle.world_rules.specs.Served.{TakenEntry}
 use Rattle.world_rules.specs.Run.{AreAllOf}
 use Rattle.client_core.specs.declared.route.Route.{Route}
 use Rattle.shell_lang.specs.declared.line.Line.{Line}
@@ -19,9 +20,9 @@ use Rattle.client_lines.specs.Headline.{last_taken, Around, Ran}
 abbrev pub EndInFailures : Route → List Ask → Type 0
 EndInFailures route asks = (front : List Ask) × (request : Message) × (asks ≡ front ++ failures Server route.server request 8)
 
--- Where the client's tree after its last taken entry was served when a session began that ended well, all that was taken is the client's,
--- no content that was sent is taken for another, and the last eight asks did not fail, the sync that is the last line came through:
--- nothing is pending.
+-- Where the client's tree after its last taken entry was served when a session began that ended well, all that was taken since is the
+-- client's, no content that was sent is taken for another, and the last eight asks did not fail, the sync that is the last line came
+-- through: nothing is pending.
 abbrev pub LastSyncsComplete : Type 0
 LastSyncsComplete = (client : ℕ) (route : Route) (start : Log) (around around_now : Around) (front : List (Result Line LineError))
     → (ran : Ran client route start around around_now 0)
@@ -29,4 +30,5 @@ LastSyncsComplete = (client : ℕ) (route : Route) (start : Log) (around around_
     → (EndInFailures route ran.goes.trace.asks → ⊥)
     → ToldWorlds around.link around_now.link
     (λ old new. InStep client start old → HasNoCollision client (start.pending ++ ran.goes.trace.entries) new.packets
-    → old.served.volume ≡ tree_at (last_taken client old) start → AreAllOf client new.taken → ran.after.client.log.pending ≡ [])
+    → old.served.volume ≡ tree_at (last_taken client old) start
+    → (taken : List TakenEntry) → new.taken ≡ old.taken ++ taken → AreAllOf client taken → ran.after.client.log.pending ≡ [])

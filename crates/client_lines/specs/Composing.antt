@@ -9,7 +9,7 @@ use Rattle.world_rules.specs.InStep.{InStep, HasNoCollision, HasNoOperation}
 use Rattle.world_rules.specs.Run.{Runs, kept_at}
 use Rattle.client_core.specs.declared.route.Route.{Route}
 use Rattle.client_core.specs.Goes.{stand}
-use Rattle.client_lines.specs.Headline.{Leaves, Around, Ran}
+use Rattle.client_lines.specs.Headline.{Leaves, MayGoOn, Around, Ran}
 
 -- What stays of the entries that a run logged, by its status: all of them, but where its keeper failed or memory ran out, perhaps the
 -- last one.
@@ -25,6 +25,7 @@ pub record LeaveTogether (client : ℕ) (start log kept : Log) (status : ℕ) (e
   pub stayed : List Entry
   pub stays : StaysOf status earlier stayed
   pub leaves : Leaves client start log kept (stayed ++ later) old new
+  pub goes_on : MayGoOn client log kept new
 
 -- Two runs, the second begun on what the first left kept, over links that tell their worlds: in the world that the first left, or one
 -- that went on without the client since. Where the first began in step, and no content that was sent is taken for another, they leave
@@ -55,4 +56,4 @@ abbrev pub MovesLeave : Type 0
 MovesLeave =
     (client : ℕ) (ships : Bool) (entries : List Entry) (asks : List Ask) (start log kept : Log) (old new : World) → InStep client start old
     → Runs client ships entries asks (kept_at start old) (stand log kept new)
-    → HasNoCollision client (start.pending ++ entries) new.packets → Leaves client start log kept entries old new
+    → HasNoCollision client (start.pending ++ entries) new.packets → Leaves client start log kept entries old new × MayGoOn client log kept new

@@ -8,7 +8,7 @@ use Rattle.world_rules.specs.Telling.{ToldWorlds}
 use Rattle.world_rules.specs.InStep.{InStep, HasNoCollision}
 use Rattle.client_core.specs.declared.route.Route.{Route}
 use Rattle.client_session.specs.Contents.{IsOfEntries, IsOfRuns, IsOfPackets}
-use Rattle.client_lines.specs.Headline.{Leaves, Around, Ran}
+use Rattle.client_lines.specs.Headline.{Leaves, MayGoOn, Around, Ran}
 
 -- a content that an operation of a run may stand for: of an entry that was pending when it began, or of a file that a command left in it
 abbrev pub IsSketchable : List Entry → List Run → List ℕ → Type 0
@@ -28,4 +28,4 @@ DistinctContentsLeave = (client : ℕ) (route : Route) (start : Log) (around aro
     → (ran : Ran client route start around around_now status)
     → ToldWorlds around.link around_now.link
     (λ old new. InStep client start old → Distinct (IsSketchable start.pending ran.goes.trace.runs) (IsOfPackets new.packets)
-    → Leaves client start ran.after.client.log ran.kept ran.goes.trace.entries old new)
+    → Leaves client start ran.after.client.log ran.kept ran.goes.trace.entries old new × MayGoOn client ran.after.client.log ran.kept new)

@@ -6,7 +6,7 @@ use Rattle.world_rules.specs.World.{World, GoesOnAlone}
 use Rattle.world_rules.specs.InStep.{HasNoCollision}
 use Rattle.client_core.specs.declared.route.Route.{Route}
 use Rattle.client_core.specs.Goes.{IsNew}
-use Rattle.client_lines.specs.Headline.{Leaves, Around, Ran}
+use Rattle.client_lines.specs.Headline.{Leaves, MayGoOn, Around, Ran}
 use Rattle.client_lines.specs.Composing.{StaysOf}
 
 -- A run of the client on a log that was kept, between two worlds that its link told. It ended with this status.
@@ -53,6 +53,12 @@ FirstRunsLeave = (client : ℕ) (earlier later : List (ToldRun client)) (middle 
     → IsNew client old → AreInRow client new_log old earlier middle between → AreInRow client middle between later kept new
     → HasNoCollision client (logged_in client earlier ++ logged_in client later) new.packets
     → (stayed : List Entry) × StayOfAll client later stayed × Leaves client middle kept kept stayed between new
+
+-- So a next run may begin where they end.
+abbrev pub FirstRunsGoOn : Type 0
+FirstRunsGoOn = (client : ℕ) (earlier later : List (ToldRun client)) (middle kept : Log) (old between new : World)
+    → IsNew client old → AreInRow client new_log old earlier middle between → AreInRow client middle between later kept new
+    → HasNoCollision client (logged_in client earlier ++ logged_in client later) new.packets → MayGoOn client kept kept new
 
 -- Without a surrogate none is.
 abbrev pub FirstStoresNeverCollide : Type 0

@@ -1,5 +1,5 @@
 -- What a whole run of a client leaves at the server and under its name, whatever the network lost, repeated or reordered.
-use Rattle.std.specs.Prelude.{◌≡◌, ◌≢◌, ◌⊎◌, ℕ, ◌+◌, ◌*◌, ◌-◌, ◌≤◌, List, ◌++◌, length, drop, Option, None, Some, is_some, Result}
+use Rattle.std.specs.Prelude.{◌≡◌, ◌≢◌, ◌⊎◌, ℕ, true, ◌+◌, ◌*◌, ◌-◌, ◌≤◌, List, [], ◌++◌, length, drop, Option, None, Some, is_some, Result}
 use Rattle.std.specs.List.{count_by}
 use Rattle.outside.specs.Outside.{Told, RoseBy, Rose}
 use Rattle.outside.specs.Keeper.{Images}
@@ -7,7 +7,7 @@ use Rattle.file_paths.specs.Path.{FilePath}
 use Rattle.tree_values.specs.Tree.{version_at}
 use Rattle.tree_values.specs.Lists.{IsIn}
 use Rattle.mod_log.specs.declared.log.Entry.{Entry}
-use Rattle.mod_log.specs.Log.{Log, tree_at}
+use Rattle.mod_log.specs.Log.{Log, IsLog, tree_at}
 use Rattle.mod_log.specs.declared.sketching.SketchEntry.{SketchEntry}
 use Rattle.wire_frames.specs.declared.message.Message.TheVariants.{Operate}
 use Rattle.world_rules.specs.declared.asking.Ask.{Ask}
@@ -22,8 +22,10 @@ use Rattle.client_lines.specs.declared.run.Stop.{Stop}
 use Rattle.client_core.specs.declared.route.Route.{Route}
 use Rattle.client_core.specs.Trace.{Trace, last_log}
 use Rattle.client_core.specs.Keeping.{IsKept}
-use Rattle.client_core.specs.Noting.{AreRecorded, ReplacesNone}
+use Rattle.client_core.specs.Noting.{AreRecorded, TakesNoRows}
 use Rattle.client_core.specs.Goes.{Goes}
+use Rattle.client_core.specs.Honest.{IsOvertaken}
+use Rattle.client_core.specs.Licence.{AreLicensed}
 use Rattle.shell_lang.specs.declared.answer.LineAnswer.{LineAnswer}
 use Rattle.shell_lang.specs.declared.answer.LineAnswer.TheVariants.{Behind, OtherLast, Older}
 use Rattle.client_session.specs.Session.{SessionState, opened, LeavesPending, is_unrun, is_unanswered}
@@ -40,9 +42,6 @@ pub record Leaves (client : ℕ) (start log kept : Log) (entries : List Entry) (
   -- the entries that the server took in the run, in order
   pub taken : List TakenEntry
   pub since : new.taken ≡ old.taken ++ taken
-  -- what is kept and the world fit together, so that the next run may begin here; and so does the log in memory
-  pub in_step : InStep client kept new
-  pub in_memory : InStep client log new
   -- the server's last entry is not before the acknowledged one, at most eight behind it, and none that is not kept
   pub not_lower : kept.acked ≤ last_taken client new
   pub not_higher : last_taken client new ≤ kept.acked + ahead
@@ -59,6 +58,12 @@ pub record Leaves (client : ℕ) (start log kept : Log) (entries : List Entry) (
   -- where the server held the client's tree after its last taken entry, and nobody else wrote, it holds the kept tree after that entry
   pub alone : old.served.volume ≡ tree_at (last_taken client old) start → AreAllOf client taken
       → new.served.volume ≡ tree_at (last_taken client new) kept
+
+-- What a run leaves for the next one: what is kept and the world fit together, so that a run may begin there, and so does the log in
+-- memory.
+pub record MayGoOn (client : ℕ) (log kept : Log) (new : World) : Type 0 where
+  pub in_step : InStep client kept new
+  pub in_memory : InStep client log new
 
 -- what the objects that a run is given tell at one moment: the bytes that are left of the input, the text of the output, what is
 -- kept under each name, the runner's runs and faults, and what the link tells of itself
@@ -84,6 +89,8 @@ pub record WorldRan (client : ℕ) (route : Route) (start last kept : Log) (trac
   -- what it leaves where no content that was sent is taken for another
   pub leaves : InStep client start old → HasNoCollision client (start.pending ++ trace.entries) new.packets
       → Leaves client start last kept trace.entries old new
+  -- then the next run may begin there, too
+  pub goes_on : InStep client start old → HasNoCollision client (start.pending ++ trace.entries) new.packets → MayGoOn client last kept new
   -- to a client whose log was in step the server is never behind
   pub honest : InStep client start old → HasNoCollision client (start.pending ++ trace.entries) new.packets → (seq last : ℕ)
       → IsIn (Some (Behind seq last)) answers → ⊥
@@ -98,6 +105,11 @@ pub record WorldRan (client : ℕ) (route : Route) (start last kept : Log) (trac
   pub calm : (begun : InStep client start old) (distinct : HasNoCollision client (start.pending ++ trace.entries) new.packets)
       → old.served.volume ≡ tree_at (last_taken client old) start → AreAllOf client (leaves begun distinct).taken
       → (Rose troubles now → ⊥) → (answer : Option LineAnswer) → IsIn answer answers → LeavesPending answer → ⊥
+  -- where no pull of it took rows, and no path is ahead of the client's tree at its end, every sync came through, or is answered
+  -- `unanswered`
+  pub complete : InStep client start old → HasNoCollision client (start.pending ++ trace.entries) new.packets → TakesNoRows trace
+      → (IsOvertaken client last new → ⊥) → (answer : Option LineAnswer) → IsIn answer answers → LeavesPending answer
+      → is_unanswered answer ≡ true
 
 -- A run where this log was kept at the start, over any link: one session over the lines that were handled, in which the client, what is
 -- kept of it and what the runner tells went on together. The runs that the runner tells grew by just those of the session, and the
@@ -115,9 +127,9 @@ pub record Ran (client : ℕ) (route : Route) (start : Log) (around around_now :
       start after.client.log kept around.images around_now.images around.runner around_now.runner around.link around_now.link
   -- it is the client's log after the last change, but where a keeping was refused or memory ran out, perhaps the one before that change
   pub kept_last : status ≢ 5 → status ≢ 7 → kept ≡ last_log start goes.trace.changes
-  -- at status 0, 3 or 8, where no pull of it replaced the base, its changes are kept one by one: the first by an image, and each later
+  -- at status 0, 3 or 8, where no pull of it took rows, its changes are kept one by one: the first by an image, and each later
   -- one by a record behind it, as long as these records have no more bytes than they may
-  pub records : status ≢ 4 → status ≢ 5 → status ≢ 7 → ReplacesNone goes.trace
+  pub records : status ≢ 4 → status ≢ 5 → status ≢ 7 → TakesNoRows goes.trace
       → Told around.images around_now.images (λ images now. AreRecorded client goes.trace.changes (images route.image) (now route.image))
   -- at most as many lines were answered `not run` as the runner failed in the run
   pub unrun : RoseBy (count_by is_unrun answers) around.runner.faults around_now.runner.faults
@@ -125,6 +137,9 @@ pub record Ran (client : ℕ) (route : Route) (start : Log) (around around_now :
   pub unanswered : HadTroubles (8 * count_by is_unanswered answers) around.link around_now.link
   -- each ask of the session is of the server at its address, or of the surrogate at its address, where there is one
   pub peers : (ask : Ask) → IsIn ask goes.trace.asks → IsOfRoute route ask
+  -- of the entries that were pending at the start, or were logged, each store that carries a light one was asked only once the entry's
+  -- operation was declined in the run, or eight asks of it failed, and the entry is the store's first one
+  pub licensed : IsLog start → AreLicensed client route (start.pending ++ goes.trace.entries) [] goes.trace.asks
   -- what it is in the world, where the link tells that
   pub told : ToldWorlds around.link around_now.link
       (WorldRan client route start after.client.log kept goes.trace answers around.link.troubles around_now.link.troubles)

@@ -4,7 +4,7 @@ use Rattle.outside.specs.Outside.{Takes}
 use Rattle.client_lines.specs.Limits.{max_input}
 use Rattle.client_lines.specs.declared.input.InputEnd.{InputEnd}
 use Rattle.client_lines.specs.declared.input.InputEnd.TheVariants.{Read, Failed, TooLong}
-use Rattle.shell_lang.specs.Lines.{last_line, lines_of, whole_lines, IsCutUpTo}
+use Rattle.shell_lang.specs.Lines.{last_line, lines_of, whole_lines}
 
 -- the bytes that no line was cut from yet, and how many bytes were read in all
 pub record Reading : Type 0 where

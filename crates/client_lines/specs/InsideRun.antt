@@ -6,7 +6,7 @@ use Rattle.mod_log.specs.Log.{Log}
 use Rattle.client_core.specs.declared.route.Route.{Route}
 use Rattle.client_core.specs.Client.{Client}
 use Rattle.client_core.specs.Trace.{Trace}
-use Rattle.client_core.specs.Noting.{ReplacesNone, KeepsChanges}
+use Rattle.client_core.specs.Noting.{TakesNoRows, KeepsChanges}
 use Rattle.shell_lang.specs.Lines.{cut_lines, unfinished}
 use Rattle.client_lines.specs.declared.input.InputEnd.{InputEnd}
 use Rattle.client_lines.specs.declared.input.InputEnd.TheVariants.{TooLong}
@@ -22,10 +22,10 @@ use Rattle.client_lines.specs.Run.{HasLines, StopsIn, WholeRun, asked_for}
 abbrev pub end_by_count : ℕ → Option InputEnd
 end_by_count count = if nat_lt max_input count then Some TooLong else None
 
--- where no pull replaced the base, the changes were kept record by record
+-- where no pull took rows, the changes were kept record by record
 abbrev pub NotesChanges : List ℕ → Client → Client → Option Images → Option Images → Trace → Type 0
 NotesChanges name before after images now trace =
-    ReplacesNone trace → KeepsChanges name before after trace.changes images now
+    TakesNoRows trace → KeepsChanges name before after trace.changes images now
 
 -- a session did what these turns say, and where it was not stopped, its changes were so kept
 abbrev pub WentNoting : {T E : Type 0} → Route → Result T E → (Log → Trace → Type 0) → Sitting → Sitting → Option Images

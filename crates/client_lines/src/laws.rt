@@ -1,7 +1,7 @@
 //! What holds of whole runs of a client, as laws.
 
 ghost use Rattle.client_lines.specs.Composing.{RunsCompose, StoresNeverCollide, MovesLeave};
-ghost use Rattle.client_lines.specs.FirstRuns.{FirstRunsLeave, FirstStoresNeverCollide};
+ghost use Rattle.client_lines.specs.FirstRuns.{FirstRunsLeave, FirstRunsGoOn, FirstStoresNeverCollide};
 ghost use Rattle.client_lines.specs.Contents.{DistinctContentsNeverCollide, DistinctContentsLeave};
 ghost use Rattle.client_lines.specs.Completing.{LastSyncsComplete};
 ghost use Rattle.client_lines.specs.Laws.{QuitIsTheLast, AllCountWithoutQuit};
@@ -21,9 +21,10 @@ pub fn runs_compose()
 {}
 
 /// Law: any number of runs of a client that was new, each begun on what the last one kept, leave together what one run leaves, whatever
-/// stopped them, where no content that was sent is taken for another; without a surrogate none is.
+/// stopped them, where no content that was sent is taken for another; without a surrogate none is. And a next run may begin there.
 pub fn first_runs_leave()
     ensures leave { FirstRunsLeave }
+    ensures go_on { FirstRunsGoOn }
     ensures stores { FirstStoresNeverCollide }
 {}
 
@@ -34,8 +35,8 @@ pub fn distinct_contents_leave()
     ensures leaves { DistinctContentsLeave }
 {}
 
-/// Law: where the client's tree after its last taken entry was served at first, nobody else wrote, no content that was sent is taken
-/// for another, and the last eight asks did not fail, nothing is pending behind a sync that is the last line.
+/// Law: where the client's tree after its last taken entry was served at first, nobody else wrote since, no content that was sent is
+/// taken for another, and the last eight asks did not fail, nothing is pending behind a sync that is the last line.
 pub fn last_syncs_complete()
     ensures { LastSyncsComplete }
 {}

@@ -39,11 +39,11 @@ use Rattle.client_core.specs.declared.pulling.PullEnd.{PullEnd}
 use Rattle.client_core.specs.declared.pulling.PullEnd.TheVariants.{Pulled, Pending, OtherLast, Older, Unanswered, KeepFault, Memory}
 use Rattle.client_core.specs.declared.running.RunEnd.{RunEnd}
 use Rattle.client_core.specs.declared.running.RunEnd.TheVariants as runs
-use Rattle.client_core.specs.Trace.{Trace, nothing, followed, asking, changing, logging, running}
+use Rattle.client_core.specs.Trace.{Trace, nothing, followed, asking, changing, logging, running, pulling}
 use Rattle.client_core.specs.Running.{IsRunOf, changes_of, first_clash, RanEnd, ran_trace, RunTurn}
 use Rattle.client_core.specs.Logging.{local_entry, LocalTurn}
 use Rattle.client_core.specs.Syncing.{store_of, IsFirst, log_behind, end_by, IsNotDone, SettlesOperation, StoreIsDue, Ships, EntryTurn, Acknowledges, acknowledging, EndsSync, SyncTurn}
-use Rattle.client_core.specs.Pulling.{pull_of, IsFirstOlder, Meets, pull_change, PullsSnapshot, PullTurn}
+use Rattle.client_core.specs.Pulling.{pull_of, IsFirstOlder, Meets, PullChanges, PullsSnapshot, PullTurn}
 use Rattle.client_core.proofs.Going.{followed-nothing, followed-assoc}
 use Rattle.client_core.proofs.Runs.{ran_alone}
 use Rattle.shell_lang.specs.declared.line.Line.{Line}
@@ -247,14 +247,18 @@ same_met before last seen (Pulled n) Unanswered a b p q = absurd q
 same_met before last seen (Pulled n) KeepFault a b p q = absurd q
 same_met before last seen (Pulled n) Memory a b p q = absurd q
 
-no_more_asks : (end : PullEnd) (after : Log) → (pull_change end after).asks ≡ []
-no_more_asks (Pulled n) after = refl
-no_more_asks (Pending n) after = refl
-no_more_asks (OtherLast l m) after = refl
-no_more_asks (Older path t o) after = refl
-no_more_asks Unanswered after = refl
-no_more_asks KeepFault after = refl
-no_more_asks Memory after = refl
+-- what the log makes of a snapshot tells what it changes
+same_changes : (before : Log) (seen : Volume) (end : PullEnd) (after : Log) (xs ys : List Log) → PullChanges before seen end after xs → PullChanges before seen end after ys → xs ≡ ys
+same_changes before seen (Pulled n) after xs ys (inl p) (inl q) = p.1 ∙ sym q.1
+same_changes before seen (Pulled n) after xs ys (inl p) (inr q) = absurd (q.0 p.0)
+same_changes before seen (Pulled n) after xs ys (inr p) (inl q) = absurd (p.0 q.0)
+same_changes before seen (Pulled n) after xs ys (inr p) (inr q) = p.1 ∙ sym q.1
+same_changes before seen (Pending n) after xs ys p q = p ∙ sym q
+same_changes before seen (OtherLast l m) after xs ys p q = p ∙ sym q
+same_changes before seen (Older path t o) after xs ys p q = p ∙ sym q
+same_changes before seen Unanswered after xs ys p q = p ∙ sym q
+same_changes before seen KeepFault after xs ys p q = p ∙ sym q
+same_changes before seen Memory after xs ys p q = p ∙ sym q
 
 -- how a pull goes: it waits, or eight asks fail, or a snapshot comes
 abbrev Waits : Log → PullEnd → Log → Trace → Type 0
@@ -275,7 +279,7 @@ module _ (client : ℕ) (route : Route) (before : Log) where
   kind_of Memory after trace turn = inr (inr turn)
 
   snapshot_asks : (end : PullEnd) (after : Log) (trace : Trace) (p : PullsSnapshot client route before end after trace) → trace.asks ≡ p.asks
-  snapshot_asks end after trace p = ap (λ (t : Trace). t.asks) p.trace_is ∙ ap (λ (l : List Ask). p.asks ++ l) (no_more_asks end after) ∙ append-nil p.asks
+  snapshot_asks end after trace p = ap (λ (t : Trace). t.asks) p.trace_is ∙ append-nil p.asks
 
   same_pull : (d e : PullEnd) (a b : Log) (p q : Trace) (xs ys : List Ask) → Waits before d a p ⊎ Fails client route before d a p ⊎ PullsSnapshot client route before d a p
       → Waits before e b q ⊎ Fails client route before e b q ⊎ PullsSnapshot client route before e b q → p.asks ++ xs ≡ q.asks ++ ys → (d ≡ e) × (a ≡ b) × (p ≡ q) × (xs ≡ ys)
@@ -301,10 +305,13 @@ module _ (client : ℕ) (route : Route) (before : Log) where
       let last : s.last ≡ t.last = cc (same.0) in
       let seen : s.seen ≡ t.seen = cc (same.0) in
       let met : Meets before t.last t.seen d a = subst (λ (n : ℕ). Meets before n t.seen d a) last (subst (λ (v : Volume). Meets before s.last v d a) seen s.met) in
-      let ends = same_met before t.last t.seen d e a b met t.met in (
+      let ends = same_met before t.last t.seen d e a b met t.met in
+      let changed : PullChanges before t.seen e b s.changes = subst (λ (x : PullEnd). PullChanges before t.seen x b s.changes) ends.0
+      (subst (λ (x : Log). PullChanges before t.seen d x s.changes) ends.1 (subst (λ (v : Volume). PullChanges before v d a s.changes) seen s.changed)) in
+      let changes : s.changes ≡ t.changes = same_changes before t.seen e b s.changes t.changes changed t.changed in (
         ends.0,
         ends.1,
-        s.trace_is ∙ ap (λ (l : List Ask). followed (asking l) (pull_change d a)) same.1 ∙ ap (λ (x : PullEnd). followed (asking t.asks) (pull_change x a)) ends.0 ∙ ap (λ (x : Log). followed (asking t.asks) (pull_change e x)) ends.1 ∙ sym t.trace_is,
+        s.trace_is ∙ ap (λ (l : List Ask). followed (asking l) (pulling d s.changes)) same.1 ∙ ap (λ (x : PullEnd). followed (asking t.asks) (pulling x s.changes)) ends.0 ∙ ap (λ (l : List Log). followed (asking t.asks) (pulling e l)) changes ∙ sym t.trace_is,
         same.2,
       )
 

@@ -1,5 +1,5 @@
 -- How the syncs of a session are answered, told from the replies to its asks.
-use Rattle.std.proofs.Common.{◌≡◌, inl, inr, ⊎_elim, ℕ, zero, suc, true, ◌+◌, ◌*◌, ◌-◌, ◌<◌, ◌≤◌, List, [], ◌∷◌, ◌++◌, length, drop, Option, None, Some, Result, Ok, Err, refl, sym, ◌∙◌, ap, subst, arith}
+use Rattle.std.proofs.Common.{◌≡◌, ◌⊎◌, inl, inr, ⊎_elim, ℕ, true, ◌+◌, ◌*◌, ◌-◌, ◌<◌, ◌≤◌, List, [], ◌∷◌, ◌++◌, length, Option, None, Some, Result, Ok, Err, refl, sym, ◌∙◌, ap, subst, arith}
 use Rattle.std.specs.Prelude.{cond}
 use Rattle.std.specs.List.{count_by}
 use Rattle.std.proofs.lemmas.List.Sums.{sum_by-cons}
@@ -8,7 +8,6 @@ use Rattle.file_paths.specs.Path.{FilePath, resolved}
 use Rattle.file_paths.specs.declared.path.PathError.{PathError}
 use Rattle.file_paths.specs.declared.path.PathError.TheVariants as paths
 use Rattle.tree_values.specs.Tree.{Volume}
-use Rattle.tree_values.specs.Effects.{changed_all}
 use Rattle.tree_values.specs.Lists.{IsIn}
 use Rattle.tree_values.specs.declared.node.Effect.{Effect}
 use Rattle.tree_values.specs.declared.node.Node.{Node}
@@ -23,7 +22,7 @@ use Rattle.work_area.specs.declared.jobs.JobError.TheVariants as jobs
 use Rattle.mod_log.specs.declared.log.Entry.{Entry}
 use Rattle.mod_log.specs.declared.log.LogError.{LogError}
 use Rattle.mod_log.specs.declared.log.LogError.TheVariants as logs
-use Rattle.mod_log.specs.Log.{Log, IsLog, AreEntriesOf, tree_of}
+use Rattle.mod_log.specs.Log.{Log, IsLog, tree_of}
 use Rattle.wire_frames.specs.declared.message.Message.{Message}
 use Rattle.wire_frames.specs.declared.message.Message.TheVariants as messages
 use Rattle.wire_frames.specs.Frame.{number_of, refused_rule}
@@ -45,7 +44,8 @@ use Rattle.client_core.specs.Trace.{Trace}
 use Rattle.world_rules.proofs.Settled.{failed-append, failed-failures}
 use Rattle.client_core.specs.Syncing.{store_of, IsFirst, Ships, end_by, acknowledging, EndsSync, SyncTurn}
 use Rattle.client_core.specs.Pulling.{pull_of, PullTurn}
-use Rattle.client_core.proofs.Licensing.{unanswered_failed}
+use Rattle.client_core.proofs.Ships.{ships_failed}
+use Rattle.client_core.proofs.Licensing.{AreNumbered, log_numbered, numbered_left, unanswered_failed}
 use Rattle.shell_lang.specs.declared.line.Line.{Line}
 use Rattle.shell_lang.specs.declared.line.Line.TheVariants as lines
 use Rattle.shell_lang.specs.declared.line.LineError.{LineError}
@@ -244,26 +244,25 @@ module _ (packets : List Message) (client : ℕ) (route : Route) (seq : ℕ) (ch
       let least : number_of reply ≤ upto + 1 = grind (arith, nat_tests) in
       omega (arith, above, most, least, settling.3.2)
 
-  -- where none failed, and nothing refuses an entry of the store, the settling ends no sync
-  accepted : (from number : ℕ) (reply : Option Message) (end : SyncEnd) → Gapless client packets → Unrefused client from packets → from < seq → failed_asks asks ≡ 0 → Settles reply → end_by number reply ≡ Some end → ⊥
-  accepted from number None end gapless none above calm settling is =
-      let store : Message = store_of client seq chosen in omega (arith, calm, ap failed_asks settling, failed-failures Server route.server store 8)
-  accepted from number (Some (messages.Accepted of m upto)) end gapless none above calm settling is = absurd (cc (is))
-  accepted from number (Some (messages.Stale of m upto path theirs ours)) end gapless none above calm settling is =
-      refused_so from upto (messages.Stale of m upto path theirs ours) none above settling settling.2.body_fits.0.1 (sym settling.3.1, refl)
-  accepted from number (Some (messages.Unfit of m upto index fault)) end gapless none above calm settling is =
-      refused_so from upto (messages.Unfit of m upto index fault) none above settling settling.2.body_fits.0.1 (sym settling.3.1, refl)
-  accepted from number (Some (messages.Full of m upto index fault)) end gapless none above calm settling is =
-      refused_so from upto (messages.Full of m upto index fault) none above settling settling.2.body_fits.0.1 (sym settling.3.1, refl)
-  accepted from number (Some (messages.Gap of m beyond)) end gapless none above calm settling is =
-      gapless m beyond (subst (λ (c : ℕ). IsIn (messages.Gap c m beyond) packets) (sym settling.3.1) (reply_stands (messages.Gap of m beyond) settling))
-  accepted from number (Some (messages.Store of m parts)) end gapless none above calm settling is = settling.3.0
-  accepted from number (Some (messages.Pull of m)) end gapless none above calm settling is = settling.3.0
-  accepted from number (Some (messages.Operate of sketched)) end gapless none above calm settling is = settling.3.0
-  accepted from number (Some (messages.Done of m)) end gapless none above calm settling is = settling.3.0
-  accepted from number (Some (messages.Declined of m why)) end gapless none above calm settling is = settling.3.0
-  accepted from number (Some (messages.Snapshot of m then seen)) end gapless none above calm settling is = settling.3.0
-  accepted from number (Some (messages.Malformed code offset)) end gapless none above calm settling is = settling.3.0
+  -- where nothing refuses an entry of the store, a settling that ends a sync had no reply
+  unreplied : (from number : ℕ) (reply : Option Message) (end : SyncEnd) → Gapless client packets → Unrefused client from packets → from < seq → Settles reply → end_by number reply ≡ Some end → reply ≡ None
+  unreplied from number None end gapless none above settling is = refl
+  unreplied from number (Some (messages.Accepted of m upto)) end gapless none above settling is = absurd (cc (is))
+  unreplied from number (Some (messages.Stale of m upto path theirs ours)) end gapless none above settling is =
+      absurd (refused_so from upto (messages.Stale of m upto path theirs ours) none above settling settling.2.body_fits.0.1 (sym settling.3.1, refl))
+  unreplied from number (Some (messages.Unfit of m upto index fault)) end gapless none above settling is =
+      absurd (refused_so from upto (messages.Unfit of m upto index fault) none above settling settling.2.body_fits.0.1 (sym settling.3.1, refl))
+  unreplied from number (Some (messages.Full of m upto index fault)) end gapless none above settling is =
+      absurd (refused_so from upto (messages.Full of m upto index fault) none above settling settling.2.body_fits.0.1 (sym settling.3.1, refl))
+  unreplied from number (Some (messages.Gap of m beyond)) end gapless none above settling is =
+      absurd (gapless m beyond (subst (λ (c : ℕ). IsIn (messages.Gap c m beyond) packets) (sym settling.3.1) (reply_stands (messages.Gap of m beyond) settling)))
+  unreplied from number (Some (messages.Store of m parts)) end gapless none above settling is = absurd settling.3.0
+  unreplied from number (Some (messages.Pull of m)) end gapless none above settling is = absurd settling.3.0
+  unreplied from number (Some (messages.Operate of sketched)) end gapless none above settling is = absurd settling.3.0
+  unreplied from number (Some (messages.Done of m)) end gapless none above settling is = absurd settling.3.0
+  unreplied from number (Some (messages.Declined of m why)) end gapless none above settling is = absurd settling.3.0
+  unreplied from number (Some (messages.Snapshot of m then seen)) end gapless none above settling is = absurd settling.3.0
+  unreplied from number (Some (messages.Malformed code offset)) end gapless none above settling is = absurd settling.3.0
 
 -- ---- how what is pending is shipped
 
@@ -274,13 +273,11 @@ module _ (packets : List Message) (client : ℕ) (route : Route) (pending : List
   ships_no_gap number came seq last gapless (inr stored) is =
       not_a_gap packets client route entry.seq stored.2 stored.1 (stand_parts packets stored.0 stored.1 (subst (Stand packets) stored.6 stand)).1 number came seq last gapless stored.5 is
 
-  shipped : (from number : ℕ) (came : Option Message) (end : SyncEnd) → Gapless client packets → Unrefused client from packets → from < entry.seq → failed_asks asks ≡ 0 → Ships client route pending entry came asks
-      → end_by number came ≡ Some end → ⊥
-  shipped from number came end gapless none above calm (inl done) is = absurd (cc (sym (ap (end_by number) done.0) ∙ is))
-  shipped from number came end gapless none above calm (inr stored) is =
-      let sum : failed_asks (stored.0 ++ stored.1) ≡ 0 = subst (λ (asks : List Ask). failed_asks asks ≡ 0) stored.6 calm in
-      accepted packets client route entry.seq stored.2 stored.1 (stand_parts packets stored.0 stored.1 (subst (Stand packets) stored.6 stand)).1 from number came end gapless none above
-      (omega (arith, sum, failed-append stored.0 stored.1)) stored.5 is
+  shipped : (from number : ℕ) (came : Option Message) (end : SyncEnd) → Gapless client packets → Unrefused client from packets → from < entry.seq → Ships client route pending entry came asks
+      → end_by number came ≡ Some end → came ≡ None
+  shipped from number came end gapless none above (inl done) is = absurd (cc (sym (ap (end_by number) done.0) ∙ is))
+  shipped from number came end gapless none above (inr stored) is =
+      unreplied packets client route entry.seq stored.2 stored.1 (stand_parts packets stored.0 stored.1 (subst (Stand packets) stored.6 stand)).1 from number came end gapless none above stored.5 is
 
 -- ---- an honest server
 
@@ -324,23 +321,9 @@ module _ (packets : List Message) (client : ℕ) (gapless : Gapless client packe
 
 -- ---- the numbers of what is pending
 
-abbrev AreNumbered : ℕ → List Entry → Type 0
-AreNumbered number [] = Unit {0}
-AreNumbered number (entry ∷ entries) = (entry.seq ≡ number) × AreNumbered (number + 1) entries
-
-numbered_entries : (number : ℕ) (volume : Volume) (entries : List Entry) → AreEntriesOf number volume entries → AreNumbered number entries
-numbered_entries number volume [] all = tt
-numbered_entries number volume (entry ∷ entries) all = (all.0.numbered, numbered_entries (number + 1) (changed_all entry.effects volume) entries all.1)
-
 numbered_more : (number : ℕ) (entries : List Entry) (entry : Entry) → AreNumbered number entries → entry.seq ≡ number + length entries → AreNumbered number (entries ++ entry ∷ [])
 numbered_more number [] entry all is = (omega (arith, is), tt)
 numbered_more number (first ∷ entries) entry all is = (all.0, numbered_more (number + 1) entries entry all.1 (omega (arith, is)))
-
-numbered_behind : (number count : ℕ) (entries : List Entry) → AreNumbered number entries → AreNumbered (number + count) (drop count entries)
-numbered_behind number zero entries all = let same : number ≡ number + 0 = omega arith in subst (λ (n : ℕ). AreNumbered n entries) same all
-numbered_behind number (suc count) [] all = tt
-numbered_behind number (suc count) (entry ∷ entries) all =
-    let same : number + 1 + count ≡ number + suc count = omega arith in subst (λ (n : ℕ). AreNumbered n (drop count entries)) same (numbered_behind (number + 1) count entries all.1)
 
 -- a log whose entries are numbered on from the acknowledged one, which is not before this one
 abbrev pub IsPast : ℕ → Log → Type 0
@@ -351,10 +334,7 @@ change_past from before after (inl logs_one) past =
     subst (IsPast from) (sym logs_one.2) (past.0, numbered_more (before.acked + 1) before.pending logs_one.0 past.1 (omega (arith, logs_one.1)))
 change_past from before after (inr (inl acknowledges)) past =
     let some = acknowledges.0 in
-    let count : ℕ = some.0 - before.acked in
-    let next : before.acked + 1 + count ≡ some.0 + 1 = omega (arith, some.1) in
-    subst (IsPast from) (sym some.3)
-    (omega (arith, past.0, some.1), subst (λ (n : ℕ). AreNumbered n (drop count before.pending)) next (numbered_behind (before.acked + 1) count before.pending past.1))
+    subst (IsPast from) (sym some.3) (omega (arith, past.0, some.1), numbered_left before some.0 some.1 past.1)
 change_past from before after (inr (inr replaces)) past = subst (IsPast from) (sym replaces.1) past
 
 changes_past : (from : ℕ) (before : Log) (changes : List Log) (after : Log) → ChangesLeadTo before changes after → IsPast from before → IsPast from after
@@ -362,7 +342,7 @@ changes_past from before [] after leads past = subst (IsPast from) (sym leads) p
 changes_past from before (change ∷ changes) after leads past = changes_past from change changes after leads.1 (change_past from before change leads.0 past)
 
 pub log_past : (log : Log) → IsLog log → IsPast log.acked log
-log_past log is = (omega arith, numbered_entries (log.acked + 1) log.base log.pending is.entries)
+log_past log is = (omega arith, log_numbered log is)
 
 first_past : (from : ℕ) (log : Log) (entry : Entry) → IsPast from log → IsFirst entry log.pending → from < entry.seq
 first_past from log entry past first = by log.pending past.1 first
@@ -371,47 +351,64 @@ first_past from log entry past first = by log.pending past.1 first
     by [] numbers first = absurd first
     by (one ∷ entries) numbers first = omega (arith, past.0, numbers.0, ap (λ (e : Entry). e.seq) first)
 
--- ---- a calm run of a client that writes alone
+-- ---- a session that nothing refuses
 
 module _ (packets : List Message) (client from : ℕ) (gapless : Gapless client packets) (none : Unrefused client from packets) (route : Route) where
-  -- the asks are answered from among the messages, and none failed
-  abbrev AreCalm : List Ask → Type 0
-  AreCalm asks = Stand packets asks × (failed_asks asks ≡ 0)
+  -- how a sync ends: with nothing pending, or unanswered, which costs eight asks
+  abbrev EndsUnrefused : Log → SyncEnd → Log → List Ask → Type 0
+  EndsUnrefused before end after asks = (end ≡ syncs.Synced before.acked) ⊎ ((end ≡ syncs.Unanswered (after.acked + 1)) × (8 ≤ failed_asks asks))
 
-  calm_parts : (xs ys : List Ask) → AreCalm (xs ++ ys) → AreCalm xs × AreCalm ys
-  calm_parts xs ys all =
-      let parts = stand_parts packets xs ys all.0 in
-      let sum = failed-append xs ys in
-      ((parts.0, omega (arith, sum, all.1)), (parts.1, omega (arith, sum, all.1)))
+  ends_unrefused : (before : Log) (end : SyncEnd) (after : Log) (trace : Trace) → IsPast from before → Stand packets trace.asks → EndsSync client route before end after trace → EndsUnrefused before end after trace.asks
+  ends_unrefused before end after trace past stand (inl synced) = inl synced.1
+  ends_unrefused before end after trace past stand (inr ended) =
+      let more : List Ask = (acknowledging before after).asks in
+      let all : trace.asks ≡ ended.0 ++ more = ap (λ (t : Trace). t.asks) ended.2 in
+      let first = (stand_parts packets ended.0 more (subst (Stand packets) all stand)).0 in
+      let turn = ended.1 in
+      let came : turn.came ≡ None =
+      shipped packets client route before.pending turn.entry ended.0 first from (after.acked + 1) turn.came end gapless none (first_past from before turn.entry past turn.first) turn.ships turn.end_is in
+      let eight : 8 ≤ failed_asks ended.0 =
+      ships_failed client route before.pending turn.entry ended.0 (subst (λ (c : Option Message). Ships client route before.pending turn.entry c ended.0) came turn.ships) in
+      inr (cc (sym turn.end_is ∙ ap (end_by (after.acked + 1)) came), omega (arith, eight, ap failed_asks all, failed-append ended.0 more))
 
-  ends_synced : (before : Log) (end : SyncEnd) (after : Log) (trace : Trace) → IsPast from before → AreCalm trace.asks → EndsSync client route before end after trace → end ≡ syncs.Synced before.acked
-  ends_synced before end after trace past calm (inl synced) = synced.1
-  ends_synced before end after trace past calm (inr ended) =
-      let asked : AreCalm (ended.0 ++ (acknowledging before after).asks) = subst (λ (t : Trace). AreCalm t.asks) ended.2 calm in
-      let first = (calm_parts ended.0 (acknowledging before after).asks asked).0 in
-      absurd (shipped packets client route before.pending ended.1.entry ended.0 first.0 from (after.acked + 1) ended.1.came end gapless none (first_past from before ended.1.entry past ended.1.first) first.1 ended.1.ships
-      ended.1.end_is)
+  -- a sync that leaves entries pending is answered `unanswered`, and cost eight asks
+  abbrev IsUnrefused : Option LineAnswer → List Ask → Type 0
+  IsUnrefused x asks = LeavesPending x → (is_unanswered x ≡ true) × (8 ≤ failed_asks asks)
 
-  calm_turn : (a b : SessionState) (trace : Trace) (line : Result Line LineError) (x : Option LineAnswer) → LineTurn route a line x b trace → (a.client.number ≡ client) × IsPast from a.client.log → AreCalm trace.asks
-      → ((b.client.number ≡ client) × IsPast from b.client.log) × (LeavesPending x → ⊥)
-  calm_turn a b trace line x turn begun calm =
+  answer_unrefused : (before : Log) (end : SyncEnd) (after : Log) (asks : List Ask) (x : Option LineAnswer) → EndsUnrefused before end after asks → x ≡ sync_answer end → IsUnrefused x asks
+  answer_unrefused before end after asks x (inl synced) is leaves = absurd (subst LeavesPending (is ∙ ap sync_answer synced) leaves)
+  answer_unrefused before end after asks x (inr unanswered) is leaves = (ap is_unanswered (is ∙ ap sync_answer unanswered.0), unanswered.1)
+
+  line_unrefused : (a b : SessionState) (trace : Trace) (line : Result Line LineError) (x : Option LineAnswer) → LineTurn route a line x b trace → (a.client.number ≡ client) × IsPast from a.client.log → Stand packets trace.asks
+      → ((b.client.number ≡ client) × IsPast from b.client.log) × IsUnrefused x trace.asks
+  line_unrefused a b trace line x turn begun stand =
       let past : IsPast from b.client.log = changes_past from a.client.log trace.changes b.client.log (line_leads a b trace route line x turn) begun.1 in (
         (line_number a b trace route line x turn ∙ begun.0, past),
         λ leaves.
             let was = only_syncs route a b trace x leaves line turn in
             let synced : SyncTurn client route a.client.log was.0 b.client.log trace = subst (λ (n : ℕ). SyncTurn n route a.client.log was.0 b.client.log trace) begun.0 was.1 in
-            let asks : AreCalm (synced.2.asks ++ synced.3.asks) = subst AreCalm (ap (λ (t : Trace). t.asks) synced.6) calm in
+            let all : trace.asks ≡ synced.2.asks ++ synced.3.asks = ap (λ (t : Trace). t.asks) synced.6 in
             let middle : IsPast from synced.1 =
             changes_past from a.client.log synced.2.changes synced.1 (acknowledged_leads client route synced.0 a.client.log synced.1 synced.2 synced.4) begun.1 in
-            let is : was.0 ≡ syncs.Synced synced.1.acked = ends_synced synced.1 was.0 b.client.log synced.3 middle (calm_parts synced.2.asks synced.3.asks asks).1 synced.5 in
-            subst LeavesPending (was.2 ∙ ap sync_answer is) leaves,
+            let ends = ends_unrefused synced.1 was.0 b.client.log synced.3 middle (stand_parts packets synced.2.asks synced.3.asks (subst (Stand packets) all stand)).1 synced.5 in
+            let told = answer_unrefused synced.1 was.0 b.client.log synced.3.asks x ends was.2 leaves in
+            (told.0, omega (arith, told.1, ap failed_asks all, failed-append synced.2.asks synced.3.asks)),
       )
 
-  -- no sync of a session leaves an entry pending
-  pub all_synced : (before : SessionState) (asked : List (Result Line LineError)) (answers : List (Option LineAnswer)) (after : SessionState) (trace : Trace) → Chain route before asked answers after trace
-      → before.client.number ≡ client → IsPast from before.client.log → Stand packets trace.asks → failed_asks trace.asks ≡ 0 → (x : Option LineAnswer) → IsIn x answers → LeavesPending x → ⊥
-  all_synced before asked answers after trace chain number past stand calm x among leaves =
-      walk route LeavesPending (λ s. (s.client.number ≡ client) × IsPast from s.client.log) AreCalm calm_parts calm_turn before asked answers after trace chain (number, past) (stand, calm) x among leaves
+  -- each sync of a session comes through, or is answered `unanswered`
+  pub all_unrefused : (before : SessionState) (asked : List (Result Line LineError)) (answers : List (Option LineAnswer)) (after : SessionState) (trace : Trace) → Chain route before asked answers after trace
+      → before.client.number ≡ client → IsPast from before.client.log → Stand packets trace.asks → (x : Option LineAnswer) → IsIn x answers → IsUnrefused x trace.asks
+  all_unrefused before [] answers after trace chain number past stand x among leaves = absurd (subst (IsIn x) chain.0 among)
+  all_unrefused before (line ∷ asked) answers after trace chain number past stand x among leaves =
+      let all : trace.asks ≡ chain.1.asks ++ chain.2.asks = ap (λ (t : Trace). t.asks) chain.8 in
+      let sum = failed-append chain.1.asks chain.2.asks in
+      let stands = stand_parts packets chain.1.asks chain.2.asks (subst (Stand packets) all stand) in
+      let here = line_unrefused before chain.0 chain.1 line chain.3 chain.5 (number, past) stands.0 in
+      ⊎_elim
+      (λ (is : x ≡ chain.3). let told = here.1 (subst LeavesPending is leaves) in (ap is_unanswered is ∙ told.0, omega (arith, told.1, ap failed_asks all, sum)))
+      (λ (later : IsIn x chain.4).
+      let told = all_unrefused chain.0 asked chain.4 after chain.2 chain.6 here.0.0 here.0.1 stands.1 x later leaves in (told.0, omega (arith, told.1, ap failed_asks all, sum)))
+      (subst (IsIn x) chain.7 among)
 
 -- ---- syncs and pulls that are not answered
 

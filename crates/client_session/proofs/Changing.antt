@@ -1,13 +1,14 @@
 -- What the lines of a session change of the log.
-use Rattle.std.proofs.Common.{◌≡◌, inl, inr, ℕ, zero, suc, List, [], ◌∷◌, ◌++◌, Option, Some, None, Result, Ok, Err, refl, sym, ap, subst}
+use Rattle.std.proofs.Common.{◌≡◌, inl, inr, ℕ, zero, suc, List, [], ◌∷◌, ◌++◌, Option, Some, None, Result, Ok, Err, refl, sym, ◌∙◌, ap, subst}
 use Rattle.file_paths.specs.declared.path.PathError.{PathError}
+use Rattle.tree_values.specs.Tree.{Volume}
 use Rattle.tree_values.specs.declared.node.Effect.{Effect}
 use Rattle.cmd_capture.specs.declared.command.Command.{Command}
 use Rattle.cmd_capture.specs.declared.capturing.CaptureError.{CaptureError}
 use Rattle.cmd_capture.specs.Capture.{capture}
 use Rattle.mod_log.specs.declared.log.Entry.{Entry}
 use Rattle.mod_log.specs.declared.log.LogError.{LogError}
-use Rattle.mod_log.specs.Log.{Log}
+use Rattle.mod_log.specs.Log.{Log, pulled}
 use Rattle.world_rules.specs.declared.asking.Ask.{Ask}
 use Rattle.client_core.specs.declared.route.Route.{Route}
 use Rattle.client_core.specs.declared.syncing.SyncEnd.{SyncEnd}
@@ -19,7 +20,7 @@ use Rattle.client_core.specs.Running.{origin_of, changes_of, run_entry, RunTurn}
 use Rattle.client_core.specs.Trace.{Trace, nothing}
 use Rattle.client_core.specs.Logging.{local_entry, LocalTurn}
 use Rattle.client_core.specs.Syncing.{EntryTurn, Acknowledges, EndsSync, SyncTurn}
-use Rattle.client_core.specs.Pulling.{PullsSnapshot, PullTurn}
+use Rattle.client_core.specs.Pulling.{PullChanges, PullsSnapshot, PullTurn}
 use Rattle.client_core.proofs.Acknowledging.{turn_some, turn_rises}
 use Rattle.client_core.proofs.Locals.{appended-is}
 use Rattle.shell_lang.specs.declared.line.Line.{Line}
@@ -62,10 +63,18 @@ synced_leads client route before end after trace turn =
     subst (λ (t : Trace). ChangesLeadTo before t.changes after) (sym turn.6)
     (leads_then before turn.1 after turn.2.changes turn.3.changes (acknowledged_leads client route turn.0 before turn.1 turn.2 turn.4) (ended_leads client route turn.1 end after turn.3 turn.5))
 
+-- rows that are kept already change nothing
+snapshot_changes : (before : Log) (seen : Volume) (count : ℕ) (after : Log) (changes : List Log) → after ≡ pulled seen before → PullChanges before seen (Pulled count) after changes → ChangesLeadTo before changes after
+snapshot_changes before seen count after changes is (inl kept) =
+    subst (λ (list : List Log). ChangesLeadTo before list after) (sym kept.1) (is ∙ (λ k. record { acked = before.acked; base = kept.0.0 k; pending = before.pending }))
+snapshot_changes before seen count after changes is (inr more) = subst (λ (list : List Log). ChangesLeadTo before list after) (sym more.1) (inr (inr (seen, is)), refl)
+
 snapshot_leads : (client : ℕ) (route : Route) (before : Log) (end : PullEnd) (after : Log) (trace : Trace) → PullsSnapshot client route before end after trace → ChangesLeadTo before trace.changes after
-snapshot_leads client route before (Pulled count) after trace turn = subst (λ (t : Trace). ChangesLeadTo before t.changes after) (sym turn.trace_is) (inr (inr (turn.seen, turn.met.3)), refl)
-snapshot_leads client route before (OtherLast last acked) after trace turn = subst (λ (t : Trace). ChangesLeadTo before t.changes after) (sym turn.trace_is) turn.met.3
-snapshot_leads client route before (Older path theirs ours) after trace turn = subst (λ (t : Trace). ChangesLeadTo before t.changes after) (sym turn.trace_is) turn.met.4
+snapshot_leads client route before (Pulled count) after trace turn = subst (λ (t : Trace). ChangesLeadTo before t.changes after) (sym turn.trace_is) (snapshot_changes before turn.seen count after turn.changes turn.met.3 turn.changed)
+snapshot_leads client route before (OtherLast last acked) after trace turn =
+    subst (λ (t : Trace). ChangesLeadTo before t.changes after) (sym turn.trace_is) (subst (λ (list : List Log). ChangesLeadTo before list after) (sym turn.changed) turn.met.3)
+snapshot_leads client route before (Older path theirs ours) after trace turn =
+    subst (λ (t : Trace). ChangesLeadTo before t.changes after) (sym turn.trace_is) (subst (λ (list : List Log). ChangesLeadTo before list after) (sym turn.changed) turn.met.4)
 snapshot_leads client route before (Pending count) after trace turn = absurd turn.met
 snapshot_leads client route before Unanswered after trace turn = absurd turn.met
 snapshot_leads client route before KeepFault after trace turn = absurd turn.met

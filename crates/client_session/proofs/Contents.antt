@@ -37,7 +37,7 @@ use Rattle.client_core.specs.declared.running.RunEnd.TheVariants as runs
 use Rattle.client_core.specs.Running.{changes_of, run_entry, RunTurn}
 use Rattle.client_core.specs.Trace.{Trace, nothing, followed, logging, running}
 use Rattle.client_core.specs.Logging.{local_entry, LocalTurn}
-use Rattle.client_core.specs.Pulling.{pull_change, PullsSnapshot, PullTurn}
+use Rattle.client_core.specs.Pulling.{PullsSnapshot, PullTurn}
 use Rattle.shell_lang.specs.declared.line.Line.{Line}
 use Rattle.shell_lang.specs.declared.line.Line.TheVariants as lines
 use Rattle.shell_lang.specs.declared.line.LineError.{LineError}
@@ -155,17 +155,8 @@ LogsNone trace = trace.entries ≡ []
 followed_none : (m n : Trace) → LogsNone m → LogsNone n → LogsNone (followed m n)
 followed_none m n first second = ap (λ (es : List Entry). es ++ n.entries) first ∙ second
 
-change_none : (end : PullEnd) (after : Log) → (pull_change end after).entries ≡ []
-change_none (pulls.Pulled count) after = refl
-change_none (pulls.Pending count) after = refl
-change_none (pulls.OtherLast last acked) after = refl
-change_none (pulls.Older path theirs ours) after = refl
-change_none pulls.Unanswered after = refl
-change_none pulls.KeepFault after = refl
-change_none pulls.Memory after = refl
-
 snapshot_none : (client : ℕ) (route : Route) (before : Log) (end : PullEnd) (after : Log) (trace : Trace) → PullsSnapshot client route before end after trace → trace.entries ≡ []
-snapshot_none client route before end after trace turn = ap (λ (t : Trace). t.entries) turn.trace_is ∙ change_none end after
+snapshot_none client route before end after trace turn = ap (λ (t : Trace). t.entries) turn.trace_is
 
 pull_none : (client : ℕ) (route : Route) (before : Log) (end : PullEnd) (after : Log) (trace : Trace) → PullTurn client route before end after trace → trace.entries ≡ []
 pull_none client route before (pulls.Pending count) after trace turn = ap (λ (t : Trace). t.entries) turn.3

@@ -27,10 +27,10 @@ use Rattle.client_core.specs.declared.pulling.PullEnd.{PullEnd}
 use Rattle.client_core.specs.declared.pulling.PullEnd.TheVariants as pulls
 use Rattle.client_core.specs.declared.running.RunEnd.{RunEnd}
 use Rattle.client_core.specs.declared.running.RunEnd.TheVariants as ends
-use Rattle.client_core.specs.Trace.{Trace, nothing, followed, asking}
+use Rattle.client_core.specs.Trace.{Trace, nothing, followed, asking, pulling}
 use Rattle.client_core.specs.Logging.{LocalTurn}
 use Rattle.client_core.specs.Running.{RunTurn}
-use Rattle.client_core.specs.Pulling.{pull_change, PullsSnapshot, PullTurn}
+use Rattle.client_core.specs.Pulling.{PullsSnapshot, PullTurn}
 use Rattle.shell_lang.specs.declared.line.Line.{Line}
 use Rattle.shell_lang.specs.declared.line.Line.TheVariants as lines
 use Rattle.shell_lang.specs.declared.line.LineError.{LineError}
@@ -59,18 +59,9 @@ local_quiet : (effect : Effect) (result : Result ℕ LogError) (before after : L
 local_quiet effect (Ok number) before after trace turn = (ap (λ (t : Trace). t.runs) turn.2, ap (λ (t : Trace). t.missed) turn.2)
 local_quiet effect (Err refusal) before after trace turn = as_nothing trace turn.2
 
-change_quiet : (end : PullEnd) (after : Log) → RunsNothing (pull_change end after)
-change_quiet (pulls.Pulled n) after = (refl, refl)
-change_quiet (pulls.Pending n) after = (refl, refl)
-change_quiet (pulls.OtherLast last acked) after = (refl, refl)
-change_quiet (pulls.Older path theirs ours) after = (refl, refl)
-change_quiet pulls.Unanswered after = (refl, refl)
-change_quiet pulls.KeepFault after = (refl, refl)
-change_quiet pulls.Memory after = (refl, refl)
-
 module _ (client : ℕ) (route : Route) (before after : Log) (trace : Trace) where
   snapshot_quiet : (end : PullEnd) → PullsSnapshot client route before end after trace → RunsNothing trace
-  snapshot_quiet end turn = followed_quiet trace (asking turn.asks) (pull_change end after) turn.trace_is (refl, refl) (change_quiet end after)
+  snapshot_quiet end turn = followed_quiet trace (asking turn.asks) (pulling end turn.changes) turn.trace_is (refl, refl) (refl, refl)
 
   pull_quiet : (end : PullEnd) → PullTurn client route before end after trace → RunsNothing trace
   pull_quiet (pulls.Pending n) turn = as_nothing trace turn.3

@@ -7,10 +7,13 @@ pub mod Contents
 pub mod Counted
 pub mod Doing
 pub mod Found
+pub mod Licensed
+pub mod Lines
 pub mod Peers
 pub mod Pulls
 pub mod Recorded
 pub mod Settlings
 pub mod Turning
 pub mod Turns
+pub mod Unpulled
 pub mod Windows

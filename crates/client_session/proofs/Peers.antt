@@ -28,7 +28,7 @@ use Rattle.client_core.specs.Trace.{Trace, nothing}
 use Rattle.client_core.specs.Running.{RunTurn}
 use Rattle.client_core.specs.Logging.{LocalTurn}
 use Rattle.client_core.specs.Syncing.{store_of, SettlesOperation, StoreIsDue, Ships, BreaksShipping, SyncTurn, BreaksSync}
-use Rattle.client_core.specs.Pulling.{pull_of, pull_change, PullsSnapshot, PullTurn, BreaksPull}
+use Rattle.client_core.specs.Pulling.{pull_of, PullsSnapshot, PullTurn, BreaksPull}
 use Rattle.shell_lang.specs.declared.line.Line.{Line}
 use Rattle.shell_lang.specs.declared.line.Line.TheVariants as lines
 use Rattle.shell_lang.specs.declared.line.LineError.{LineError}
@@ -121,18 +121,9 @@ module _ (route : Route) where
     snapshot_asked : (before : Log) (end : PullEnd) (after : Log) (trace : Trace) → PullsSnapshot client route before end after trace → AreOfRoute trace.asks
     snapshot_asked before end after trace turn =
         subst (λ (t : Trace). AreOfRoute t.asks) (sym turn.trace_is)
-        (both_asked turn.asks (pull_change end after).asks
+        (both_asked turn.asks []
         (settling_asked Server route.server (pull_of client before) (of_server (pull_of client before)) (Some (messages.Snapshot client before.acked turn.last turn.seen)) turn.asks turn.settling)
-        (none_asked (pull_change end after).asks (changes_ask end)))
-      where
-        changes_ask : (end : PullEnd) → (pull_change end after).asks ≡ []
-        changes_ask (pulls.Pulled count) = refl
-        changes_ask (pulls.Pending count) = refl
-        changes_ask (pulls.OtherLast last acked) = refl
-        changes_ask (pulls.Older path theirs ours) = refl
-        changes_ask pulls.Unanswered = refl
-        changes_ask pulls.KeepFault = refl
-        changes_ask pulls.Memory = refl
+        (none_asked [] refl))
 
     pull_asked : (before : Log) (end : PullEnd) (after : Log) (trace : Trace) → PullTurn client route before end after trace → AreOfRoute trace.asks
     pull_asked before (pulls.Pending count) after trace turn = none_asked trace.asks (ap (λ (t : Trace). t.asks) turn.3)

@@ -21,7 +21,7 @@ use Rattle.client_core.specs.Trace.{Trace, nothing}
 use Rattle.client_core.specs.Logging.{local_entry, LocalTurn}
 use Rattle.client_core.specs.Running.{origin_of, changes_of, run_entry, RunTurn}
 use Rattle.client_core.specs.Pulling.{PullsSnapshot, PullTurn, is_broken_pull}
-use Rattle.client_core.specs.Noting.{logs_behind, ReplacesNone, records_logged, KeepsLogged}
+use Rattle.client_core.specs.Noting.{logs_behind, TakesNoRows, records_logged, KeepsLogged}
 use Rattle.client_core.proofs.Locals.{appended-is}
 use Rattle.client_core.proofs.Noting.{records_none, records_one, keeps_same, logged_changes}
 use Rattle.shell_lang.specs.declared.line.Line.{Line}
@@ -87,15 +87,15 @@ module _ (client : ℕ) (route : Route) (before after : Log) (trace : Trace) whe
   pull_noted (pulls.Pending count) none turn = same_noted before after trace turn.2 (ap (λ (t : Trace). t.changes) turn.3)
   pull_noted pulls.Unanswered none turn = same_noted before after trace turn.1.2 (ap (λ (t : Trace). t.changes) turn.1.3)
   pull_noted (pulls.Pulled count) none turn = absurd (cc (none))
-  pull_noted (pulls.OtherLast last acked) none turn = same_noted before after trace turn.met.3 (ap (λ (t : Trace). t.changes) turn.trace_is)
-  pull_noted (pulls.Older path theirs ours) none turn = same_noted before after trace turn.met.4 (ap (λ (t : Trace). t.changes) turn.trace_is)
+  pull_noted (pulls.OtherLast last acked) none turn = same_noted before after trace turn.met.3 (ap (λ (t : Trace). t.changes) turn.trace_is ∙ turn.changed)
+  pull_noted (pulls.Older path theirs ours) none turn = same_noted before after trace turn.met.4 (ap (λ (t : Trace). t.changes) turn.trace_is ∙ turn.changed)
   pull_noted pulls.KeepFault none turn = absurd turn.met
   pull_noted pulls.Memory none turn = absurd turn.met
 
-  pulled_not : ReplacesNone trace → (count : ℕ) → PullsSnapshot client route before (pulls.Pulled count) after trace → ⊥
+  pulled_not : TakesNoRows trace → (count : ℕ) → PullsSnapshot client route before (pulls.Pulled count) after trace → ⊥
   pulled_not none count turn = none count (subst (λ (t : Trace). IsIn (pulls.Pulled count) t.pulls) (sym turn.trace_is) (inl refl))
 
-  not_pulled : ReplacesNone trace → (end : PullEnd) → PullTurn client route before end after trace → has_pulled (Ok lines.Pull) (pull_answer end) ≡ false
+  not_pulled : TakesNoRows trace → (end : PullEnd) → PullTurn client route before end after trace → has_pulled (Ok lines.Pull) (pull_answer end) ≡ false
   not_pulled none (pulls.Pending count) turn = refl
   not_pulled none pulls.Unanswered turn = refl
   not_pulled none (pulls.Pulled count) turn = absurd (pulled_not none count turn)
@@ -161,7 +161,7 @@ module _ (before after : SessionState) (trace : Trace) where
       pull_noted before.client.number route before.client.log after.client.log trace turn.0 (sym (ap (has_pulled (Ok lines.Pull)) turn.3) ∙ none) turn.1
   line_noted route (Ok lines.Quit) answer other turn none = stays turn.1 turn.2
 
-  pub line_unpulled : (route : Route) (line : Result Line LineError) (answer : Option LineAnswer) → LineTurn route before line answer after trace → ReplacesNone trace → has_pulled line answer ≡ false
+  pub line_unpulled : (route : Route) (line : Result Line LineError) (answer : Option LineAnswer) → LineTurn route before line answer after trace → TakesNoRows trace → has_pulled line answer ≡ false
   line_unpulled route (Err refusal) answer turn none = refl
   line_unpulled route (Ok lines.Empty) answer turn none = refl
   line_unpulled route (Ok (lines.Put word text)) answer turn none = refl

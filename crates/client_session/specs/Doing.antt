@@ -44,7 +44,7 @@ abbrev pub LineEnds : Route → SessionState → Result Line LineError → Resul
 LineEnds route before line (Ok answer) after kept trace = LineTurn route before line answer after trace × (kept ≡ after.client.log)
 LineEnds route before line (Err error) after kept trace = Broken route before line after trace
 
--- the same, and where it was answered and no pull replaced the base, each change of the line was kept by a record of its own
+-- the same, and where it was answered and no pull took rows, each change of the line was kept by a record of its own
 abbrev pub LineNoting : Route → Sitting → Result Line LineError → Result (Option LineAnswer) LineStop → Sitting → Option Images
     → Option Images → Log → Trace → Type 0
 LineNoting route before line result after images now kept trace =

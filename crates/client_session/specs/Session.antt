@@ -238,7 +238,7 @@ LeavesPending answer = ⊥
 
 -- ---- pulls that replace the base
 
--- whether a line that is answered so replaced the base
+-- whether a line that is answered so took rows
 abbrev pub has_pulled : Result Line LineError → Option LineAnswer → Bool
 has_pulled (Ok Pull) (Some (answers.Pulled count)) = true
 has_pulled line answer = false

@@ -1,7 +1,7 @@
 // Laws of sessions.
 ghost use Rattle.client_session.specs.Laws.{SessionsChangeSo, AsksAndRunsMakeSessions, UnrunLinesAreCounted};
 ghost use Rattle.client_session.specs.Laws.{LinesRunOnce, AsksAreOfTheRoute, BrokenSessionsAskTheRoute, UnansweredLinesCostAsks};
-ghost use Rattle.client_session.specs.Laws.{AsksAreOfTurns, BrokenSessionsAskInTurns};
+ghost use Rattle.client_session.specs.Laws.{AsksAreOfTurns, BrokenSessionsAskInTurns, SessionsAreLicensed, BrokenSessionsAreLicensed};
 ghost use Rattle.client_session.specs.Contents.{DistinctContentsDoNotCollide, BrokenSessionsDoNotCollide};
 
 /// Law: what a session changes of the log are entries that it logs, acknowledgements of one or more of the first pending ones and
@@ -41,9 +41,17 @@ pub fn asks_are_of_the_route()
     ensures broken { BrokenSessionsAskTheRoute }
 {}
 
-/// Law: each ask of a session is of the turn of one of its lines, or of the last line, where that was broken off. So what is
-/// said of each ask of a sync, as when the store of a light entry may be asked, is said of each ask of a session.
+/// Law: each ask of a session is of the turn of one of its lines, or of the last line, where that was broken off, in a state that
+/// the session reached. Where it began with a log, that turn asks for a store that carries a light entry only once the entry's
+/// operation was not done on this line, and for nothing but the operation of an entry that is done so.
 pub fn asks_are_of_turns()
     ensures whole { AsksAreOfTurns }
     ensures broken { BrokenSessionsAskInTurns }
+{}
+
+/// Law: a session that began with a log asks for a store that carries a light entry, one that was pending then or that it logged,
+/// only once the entry's operation was declined in it, or eight asks of it failed, and the entry is the store's first one.
+pub fn sessions_are_licensed()
+    ensures whole { SessionsAreLicensed }
+    ensures broken { BrokenSessionsAreLicensed }
 {}

@@ -11,8 +11,8 @@ mod stop;
 
 pub use laws::{
     asks_and_runs_make_sessions, asks_are_of_the_route, asks_are_of_turns,
-    distinct_contents_do_not_collide, sessions_change_so, unanswered_lines_cost_asks,
-    unrun_lines_are_counted,
+    distinct_contents_do_not_collide, sessions_are_licensed, sessions_change_so,
+    unanswered_lines_cost_asks, unrun_lines_are_counted,
 };
 pub use session::Session;
 pub use stop::LineStop;

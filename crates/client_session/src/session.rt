@@ -70,7 +70,7 @@ impl Session {
         runner: &mut R,
     ) -> Result<Option<LineAnswer>, LineStop>
         requires { IsKeptReady (K.images keeper.old) route.now.image self.old.client }
-        // each change was kept by itself, but for a pull that replaced the base
+        // each change was kept by itself, but for a pull that took rows
         ensures did { WentDoing route.now (LineNoting route.now self.old line result self.new (K.images keeper.old) (K.images keeper.new))
             (state_of self.old) (state_of self.new) (K.images keeper.old) (K.images keeper.new)
             (beside (L.tells link.old) (telling (R.runs runner.old) (R.faults runner.old)))

@@ -1,6 +1,9 @@
 -- What the keeping of entries that were logged together leaves.
 use Rattle.std.proofs.Common.{Bool, true, false, ◌≡◌, ◌⊎◌, inl, inr, ℕ, suc, ◌+◌, ◌-◌, ◌≤◌, length, List, [], ◌++◌, map, take, drop, Option, None, Some, Result, Ok, Err, refl, sym, ◌∙◌, ap, subst, arith}
 use Rattle.std.specs.Prelude.{if◌then◌else◌}
+use Rattle.std.specs.Str.{bytes_eq}
+use Rattle.std.proofs.lemmas.Bool.{true≢false}
+use Rattle.std.proofs.lemmas.Slice.Eq.{bytes_eq-Decides}
 use Rattle.std.proofs.lemmas.List.{append-nil, take_all}
 use Rattle.outside.specs.Outside.{Told}
 use Rattle.outside.specs.Keeper.{Images}
@@ -15,7 +18,7 @@ use Rattle.store_image.specs.Image.{Keeps}
 use Rattle.store_image.proofs.Appended.{records_are_appended}
 use Rattle.client_core.specs.declared.keeping.Journal.{Journal}
 use Rattle.client_core.specs.Journal.{notes_since, may_add, next_notes}
-use Rattle.client_core.specs.Keeping.{IsKept, IsReady, IsReadyFor, IsSmall, StaysSmall, Kept, most_records, StillKeeps, AddsSome, LeavesKept, KeepsNext}
+use Rattle.client_core.specs.Keeping.{IsKept, IsReady, IsReadyFor, IsSmall, StaysSmall, OthersStay, Kept, most_records, StillKeeps, AddsSome, LeavesKept, KeepsNext}
 use Rattle.store_image.specs.declared.image.TheConstants.{MAX_CLIENT_IMAGE, MAX_RECORDS}
 use Rattle.world_rules.proofs.Asks.{told_start, told_as, told_then}
 use Rattle.client_core.specs.declared.pulling.PullEnd.{PullEnd}
@@ -69,6 +72,21 @@ module _ (name : List ℕ) where
   pub changes_pulled : (client : ℕ) (before : Log) (end : PullEnd) (after : Log) (i j : Option Images) → PullKeeps name client before end after i j → Told i j (ChangesOnly name)
   changes_pulled client before end after i j keeps =
       told_as i j (Kept name client keeps.kept keeps.changes) (ChangesOnly name) keeps.keeping.told (λ x y kept. (kept.others, kept.small))
+
+-- ---- where nothing was changed
+
+-- where the name has what it had, and the others have, all is as before
+images_same : (name : List ℕ) (x y : Images) → y name ≡ x name → OthersStay name x y → y ≡ x
+images_same name x y here others = λ i. λ other. each other (bytes_eq other name) refl i
+  where
+    each : (other : List ℕ) (b : Bool) → bytes_eq other name ≡ b → y other ≡ x other
+    each other true is = let same = (bytes_eq-Decides other name).0 is in ap y same ∙ here ∙ sym (ap x same)
+    each other false differs = others other (λ same. true≢false (sym ((bytes_eq-Decides other name).1 same) ∙ differs))
+
+pub kept_same : (name : List ℕ) (client : ℕ) (log : Log) (changes : List Log) → changes ≡ [] → (i j : Option Images) → Told i j (Kept name client log changes) → j ≡ i
+kept_same name client log changes none (Some x) (Some y) told = ap Some (images_same name x y (told.unchanged none) told.others)
+kept_same name client log changes none (Some x) None told = absurd told
+kept_same name client log changes none None j told = told
 
 -- what is kept where a keeping was refused: a front of the entries
 abbrev pub KeepsSome : ℕ → List ℕ → List (List Effect) → Log → Option Images → Type 0

@@ -1,5 +1,6 @@
 -- What the pull of a client that has logged nothing leaves.
 use Rattle.std.proofs.Common.{false, ◌≡◌, ◌≢◌, inl, inr, ℕ, List, [], ◌∷◌, ◌++◌, Option, Ok, Err, refl, sym, ◌∙◌, ap, subst, arith}
+use Rattle.outside.specs.Outside.{Told}
 use Rattle.outside.specs.Keeper.{Images}
 use Rattle.tree_values.specs.Tree.{Volume}
 use Rattle.tree_values.specs.Lists.{IsIn}
@@ -12,13 +13,13 @@ use Rattle.world_rules.specs.InStep.{InStep, HasNoCollision}
 use Rattle.world_rules.specs.Run.{kept_at}
 use Rattle.world_rules.proofs.Asks.{told_as, told_start}
 use Rattle.std.proofs.lemmas.List.{append-nil}
-use Rattle.client_core.specs.Keeping.{IsKept}
+use Rattle.client_core.specs.Keeping.{IsKept, Kept}
 use Rattle.world_rules.proofs.Colliding.{none_collides}
 use Rattle.world_rules.proofs.Runs.{both_in_step, run_asked}
 use Rattle.client_core.specs.declared.pulling.PullEnd.{PullEnd}
 use Rattle.client_core.specs.declared.pulling.PullEnd.TheVariants as pulls
 use Rattle.client_core.specs.Trace.{Trace, asking, IsLastOrBefore}
-use Rattle.client_core.specs.Pulling.{PullTurn, BreaksPull, PullEnds, is_broken_pull}
+use Rattle.client_core.specs.Pulling.{PullChanges, PullTurn, BreaksPull, PullEnds, is_broken_pull}
 use Rattle.client_core.specs.Honest.{IsTruePull}
 use Rattle.client_core.specs.Goes.{Goes, WorldGoes, Went, no_runner, stand}
 use Rattle.client_core.proofs.Going.{kept_now}
@@ -26,6 +27,7 @@ use Rattle.client_shelf.specs.declared.ends.ShelvingStop.TheVariants as stops
 use Rattle.client_shelf.specs.Shelving.{Shelving, new_route, IsUnused}
 use Rattle.client_shelf.specs.Ending.{Standing, LeavesShelved, EndsPull, KeepsFront, ShelvingBreaks}
 use Rattle.client_shelf.specs.Inside.{PullsTo, pulled_to}
+use Rattle.client_shelf.proofs.Kept.{kept_same}
 
 -- two lists that have nothing
 both_empty : (xs ys : List Entry) → xs ≡ [] → ys ≡ [] → xs ++ ys ≡ []
@@ -97,6 +99,10 @@ module _ (asked : Shelving) (start after : Log) (unused : IsUnused start) (i j :
       true_pull = true_so;
     }
 
+  -- what is kept where nothing was changed
+  as_before : (kept : Log) (changes : List Log) → Told i j (Kept asked.new_image asked.new_client kept changes) → changes ≡ [] → j ≡ i
+  as_before kept changes told none = kept_same asked.new_image asked.new_client kept changes none i j told
+
   -- a pull that was broken off
   breaks : (kept : Log) (turns : Trace → Type 0) (goes : GoesSo turns kept) → BreaksPull asked.new_client (new_route asked) start after goes.trace → (lists : List (List Effect)) → ShelvingBreaks asked start lists old new
   breaks kept turns goes (inl asking) lists =
@@ -104,7 +110,7 @@ module _ (asked : Shelving) (start after : Log) (unused : IsUnused start) (i j :
       record {
         asks = goes.trace.asks;
         kept = kept;
-        front = inl (unchanged_kept goes.trace.changes (ap (λ (x : Trace). x.changes) trace_is) goes.keeping.behind, (after, goes.trace, inl asking, refl));
+        front = inl (unchanged_kept goes.trace.changes (ap (λ (x : Trace). x.changes) trace_is) goes.keeping.behind, (after, goes.trace, inl asking, refl, as_before kept goes.trace.changes goes.keeping.told));
         leaves = leaves turns kept goes (ap (λ (x : Trace). x.entries) trace_is);
       }
     where
@@ -123,14 +129,18 @@ module _ (asked : Shelving) (start after : Log) (unused : IsUnused start) (i j :
         asks = goes.trace.asks;
         kept = kept;
         front = by count came.seen rows (subst (λ (l : Log). PullTurn asked.new_client (new_route asked) start (pulls.Pulled count) l goes.trace) rows came)
-            (subst (λ (c : List Log). IsLastOrBefore start c kept) (ap (λ (x : Trace). x.changes) trace_is) goes.keeping.behind);
+            (subst (λ (c : List Log). IsLastOrBefore start c kept) (ap (λ (x : Trace). x.changes) trace_is ∙ changes_are came.changed) goes.keeping.behind);
         leaves = leaves turns kept goes (ap (λ (x : Trace). x.entries) trace_is);
       }
     where
+      changes_are : PullChanges start pulled.1.seen (pulls.Pulled pulled.0) after pulled.1.changes → pulled.1.changes ≡ after ∷ []
+      changes_are (inl same) = absurd (pulled.2 same.0)
+      changes_are (inr more) = more.1
+
       by : (count : ℕ) (seen : Volume) → after ≡ new_log_of 0 seen → PullTurn asked.new_client (new_route asked) start (pulls.Pulled count) (new_log_of 0 seen) goes.trace → IsLastOrBefore start (after ∷ []) kept
-          → KeepsFront asked start lists kept goes.trace.asks
+          → KeepsFront asked start lists kept goes.trace.asks old new
       by count seen rows turn (inl last) = inr (seen, 0, (count, (goes.trace, turn, refl)), ap Ok (sym (last ∙ rows)))
-      by count seen rows turn (inr before) = inl (before, (after, goes.trace, inr (pulled.0, pulled.1), refl))
+      by count seen rows turn (inr before) = inl (before, (after, goes.trace, inr pulled, refl, as_before kept goes.trace.changes goes.keeping.told))
 
   pub pull_went : (end : PullEnd) → Went asked.new_client false asked.new_image (PullEnds asked.new_client (new_route asked) start end after) start after i j t u
       → (is_broken_pull end ≡ false → ((count : ℕ) → end ≢ pulls.Pulled count) → j ≡ i) → ((count : ℕ) → end ≢ pulls.Pending count) → PullsTo asked start after (pulled_to end) old new
@@ -191,5 +201,5 @@ module _ (asked : Shelving) (start : Log) (unused : IsUnused start) (i : Option 
   pub pull_unbegun : PullsTo asked start start (Err stops.Memory) same same
   pull_unbegun = (
     inr refl,
-    λ lists. record { asks = []; kept = start; front = inl (refl, (start, asking [], inl ([], unused.1, refl, (0, omega arith, inl refl), refl), refl)); leaves = nothing_left },
+    λ lists. record { asks = []; kept = start; front = inl (refl, (start, asking [], inl ([], unused.1, refl, (0, omega arith, inl refl), refl), refl, λ none. refl)); leaves = nothing_left },
   )

@@ -51,10 +51,11 @@ Pulls asked start end after asks =
 abbrev pub PullsRows : Shelving → Log → Volume → List Ask → Type 0
 PullsRows asked start seen asks = (count : ℕ) × Pulls asked start (pulls.Pulled count) (new_log_of 0 seen) asks
 
--- it was broken off
-abbrev pub PullBreaks : Shelving → Log → List Ask → Type 0
-PullBreaks asked start asks =
+-- it was broken off; where it had taken no rows, all that is kept is as before
+abbrev pub PullBreaks : Shelving → Log → List Ask → Standing → Standing → Type 0
+PullBreaks asked start asks old new =
     (after : Log) × (trace : Trace) × BreaksPull asked.new_client (new_route asked) start after trace × (asks ≡ trace.asks)
+    × (trace.changes ≡ [] → new.images ≡ old.images)
 
 -- Where the new client's log was `start`, and these asks were made, `kept` is kept of it. The troubles of the link rose by at least the
 -- asks that failed. Where it tells its world, that noted just these asks, and what is kept is in step with it, if the log was at first.
@@ -93,16 +94,16 @@ pub record EndsKept (asked : Shelving) (start : Log) (lists : List (List Effect)
   pub leaves : LeavesShelved asked start kept asks old new
 
 -- What is kept is the log from before, and the pull was broken off; or it is a front of these entries behind the rows that were pulled.
-abbrev pub KeepsFront : Shelving → Log → List (List Effect) → Log → List Ask → Type 0
-KeepsFront asked start lists kept asks =
-    ((kept ≡ start) × PullBreaks asked start asks)
+abbrev pub KeepsFront : Shelving → Log → List (List Effect) → Log → List Ask → Standing → Standing → Type 0
+KeepsFront asked start lists kept asks old new =
+    ((kept ≡ start) × PullBreaks asked start asks old new)
     ⊎ ((seen : Volume) × (count : ℕ) × PullsRows asked start seen asks × (appended_all (take count lists) (new_log_of 0 seen) ≡ Ok kept))
 
 -- The pull was begun, and it, the logging or the keeping broken off.
 pub record ShelvingBreaks (asked : Shelving) (start : Log) (lists : List (List Effect)) (old new : Standing) : Type 0 where
   pub asks : List Ask
   pub kept : Log
-  pub front : KeepsFront asked start lists kept asks
+  pub front : KeepsFront asked start lists kept asks old new
   pub leaves : LeavesShelved asked start kept asks old new
 
 -- ---- the ends
