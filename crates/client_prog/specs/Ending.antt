@@ -1,5 +1,5 @@
 -- What a run of the client is to the objects that it is given, by its status.
-use Rattle.std.specs.Prelude.{◌≡◌, ◌↔◌, ◌==◌, ℕ, Bool, List, [], ◌∷◌, None, IfSome, IsTrue}
+use Rattle.std.specs.Prelude.{◌≡◌, ◌↔◌, ◌==◌, ◌||◌, ℕ, Bool, List, [], ◌∷◌, None, IfSome, IsTrue}
 use Rattle.std.specs.List.{list_any}
 use Rattle.client_lines.specs.Headline.{Around}
 use Rattle.client_lines.specs.Ending.{Faults, SessionEnds}
@@ -11,6 +11,10 @@ use Rattle.client_prog.specs.Words.{ClientForm, Run, Drill, Shelve, Check, form_
 -- the statuses that a run may give
 abbrev pub is_status : ℕ → Bool
 is_status status = list_any (λ known. known == status) (0 ∷ 2 ∷ 3 ∷ 4 ∷ 5 ∷ 6 ∷ 7 ∷ 8 ∷ 9 ∷ [])
+
+-- those that the program may end with: one more where its environment says nothing that can be followed
+abbrev pub is_exit : ℕ → Bool
+is_exit status = status == 1 || is_status status
 
 -- what a shelving looks at of what is around a run
 abbrev pub moment : Around → Faults → Moment

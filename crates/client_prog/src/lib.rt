@@ -5,7 +5,9 @@ mod program;
 mod reasons;
 mod run;
 mod untold;
+mod wishing;
 mod words;
+mod wrong_word;
 
 pub use program::{client_main, client_program};
 pub use real_edge::Terminals;

@@ -5,10 +5,10 @@ ghost use Rattle.program_words.specs.Status.{code};
 
 use crate::program::NAME;
 use crate::words::{Form, form_of};
+use crate::wrong_word::wrong_word;
 use client_lines::MAX_INPUT;
 use program_words::{Status, end, tell_plainly};
-use real_edge::{StdSink, Trouble, tell_trouble};
-use std::io::Write;
+use real_edge::{Trouble, Troubled, tell_trouble};
 use std::process::ExitCode;
 
 /// What the calls met that failed last, where one did.
@@ -20,11 +20,7 @@ pub(crate) struct Failures<'a> {
 }
 
 /// Ends the program where a page was shown, and that ended so. Where the output failed, standard error says why.
-pub(crate) fn end_shown<R: Eprint, W: Write + Drop>(
-    rt: &R,
-    status: Status,
-    output: &StdSink<W>,
-) -> ExitCode
+pub(crate) fn end_shown<R: Eprint, O: Troubled>(rt: &R, status: Status, output: &O) -> ExitCode
     ensures { exit_status result ≡ code status }
 {
     let failures = Failures {
@@ -59,10 +55,17 @@ fn tell_why<R: Eprint>(rt: &R, words: &[String], status: Status, failures: &Fail
         Status::OtherImage => tell_image(rt, words),
         Status::TooLong => tell_length(rt),
         Status::Refused => tell_refused(rt),
-        Status::Done | Status::CannotListen | Status::NoForm | Status::NoMemory => {
-            tell_plainly(rt, NAME, status);
-        }
+        Status::NoForm => tell_word(rt, words),
+        Status::Done | Status::CannotListen | Status::NoMemory => tell_plainly(rt, NAME, status),
     }
+}
+
+/// Tells which of the words is wrong.
+fn tell_word<R: Eprint>(rt: &R, words: &[String]) {
+    if let Some(wrong) = wrong_word(words) {
+        let _ = eprintln!(rt; "{NAME}: {wrong}");
+    }
+    tell_plainly(rt, NAME, Status::NoForm);
 }
 
 /// Tells that the image of the words is none of this client's.

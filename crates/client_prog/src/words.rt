@@ -1,6 +1,7 @@
 //! The words behind the name of the client program: their forms, and what they say.
 
-ghost use Rattle.std.specs.Prelude.{◌≡◌, ◌≤◌, IfSome, MatchOption, None, Some, map};
+ghost use Rattle.std.specs.Prelude.{◌≡◌, ◌≤◌, IfSome, MatchOption, None, Some, is_some, map};
+ghost use Rattle.program_words.specs.Numbers.{printed_number};
 ghost use Rattle.std.specs.Option.{option_copied};
 ghost use Rattle.std.specs.String.{string_bytes};
 ghost use Rattle.wire_frames.specs.Limits.{max_client};
@@ -151,8 +152,15 @@ fn drill_words(words: &[String]) -> Option<DrillWords>
     }
 }
 
+/// Whether a word prints the number of a client.
+pub(crate) fn is_number(word: &str) -> bool
+    ensures { result ≡ is_some (printed_number 1 max_client word.now) }
+{
+    printed_number(word, 1, u32::from(CLIENTS)).is_some()
+}
+
 /// The seed that a word prints: `0`, or a number without a leading zero.
-fn seed_of(word: &str) -> Option<u16>
+pub(crate) fn seed_of(word: &str) -> Option<u16>
     ensures { result ≡ seed_of word.now }
 {
     if word.as_bytes() == b"0".as_slice() {

@@ -10,6 +10,7 @@ mod run;
 mod serving;
 mod telling;
 mod words;
+mod wrong_word;
 
 pub use laws::{connections_are_counted, kept_images_are_served};
 pub use program::{PAGES, served, server_main, server_program};

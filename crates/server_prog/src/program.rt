@@ -7,15 +7,16 @@ ghost use Rattle.server_prog.specs.Run.{is_exit, is_server_status, objects_of, E
 ghost use Rattle.server_prog.specs.Words.{Run, form_of, run_said};
 
 use crate::reading::ReadKeeper;
-use crate::reasons::end_told;
+use crate::reasons::{end_told, tell_missing};
 use crate::run::server_run;
 use crate::words::{Form, RunWords, form_of};
+use crate::wrong_word::tell_wrong_word;
 use outside::{Keeper, MemPort, Port, Sink};
 use program_words::{
     Pages, Status, checked_words, end_plainly, given_words, hold_places, is_logged, page_shown,
     tell_listening,
 };
-use real_edge::{FileKeeper, LoggedPort, StdSink, TcpPort, Troubled};
+use real_edge::{FileKeeper, LoggedPort, PeerPort, StdSink, TcpPort, Troubled};
 use std::alloc::Global;
 use std::fs::File;
 use std::io;
@@ -28,55 +29,30 @@ const HELP: &str = "\
 Usage: server run LISTEN IMAGE COUNT
        server root IMAGE
        server prove IMAGE PATH
+       server --help | --version
 
-'run' listens at LISTEN, takes one frame of each connection, and answers it
-before it takes the next one. Frames come in and answers go out side by side: a
-peer that is slow or silent holds up no other. At its end it writes 'served K
-faults F': K frames were taken, and F calls of the network failed. A fault ends
-one connection alone.
+  run     takes what clients ship, keeps it in IMAGE, and answers
+  root    writes the root of the files in IMAGE: 64 hexadecimal digits
+  prove   writes a certificate of what stands at PATH in them
 
-LISTEN is an address with a port. IMAGE names the file in which the server is
-kept, before it answers; where there is none the server is new. IMAGE.new and
-IMAGE.lock belong to it, and no other program has it meanwhile. IMAGE is made
-for its owner alone, with the rights 0600; rights that you give it stay. COUNT
-is how many connections are taken, from 1 to 65536: one for up to eight changes
-that a client syncs, one for each pull, and one for each stranger. A server that
-has ended goes on from its image.
+  LISTEN  the address to listen at, with a port, as 127.0.0.1:7001
+  IMAGE   the file that keeps the server; if there is none, the server is new
+  COUNT   how many connections are taken before the server ends, 1 to 65536
 
-'root' writes the root of the files that IMAGE keeps: 64 hexadecimal digits that
-stand for all of them. 'prove' writes a certificate of what stands at PATH, to
-be checked against the root without the files. Where there is no IMAGE, the
-server is new. Both only read: they listen nowhere, take no lock, and may be
-used while a server runs on IMAGE.
+Whoever reaches LISTEN can read and write every file. Nothing is encrypted, and
+nobody logs in: listen at 127.0.0.1, and let clients come through a tunnel.
+At COUNT the server ends with status 0; start it again on its IMAGE. At its end
+it writes 'served K faults F': K requests were taken, F calls of the network
+failed. With HAURPIKO_LOG=1 in the environment, standard error has a line for
+each request. Statuses other than 0 have their reason there.
 
-Standard error says where the server listens, and why it ends with a status
-that is not 0. With HAURPIKO_LOG=1 in the environment it has a line for each
-request, too.
-
-Examples:
-  server run 127.0.0.1:7001 server.image 100
-  server root server.image
-  server prove server.image d/a > a.certificate
-
-The server ends with one of these statuses:
-  0  COUNT connections were taken, or none is left; or what was asked is written
-  1  it cannot listen at LISTEN
-  2  the words have another form
-  4  standard output failed
-  5  IMAGE could not be read or written, or another program has it; what was
-     answered is kept
-  6  IMAGE is no server's; nothing was touched
-  7  memory ran out; what was answered is kept
-
-Options:
-  --help      shows this text
-  --version   shows the version, the formats and the kit
+For statuses, files and limits: man haurpiko-server
 ";
 
 const VERSION: &str = "\
 server 0.1.0
 frames: version 3; images: written: version 2; read: versions 1 and 2
-kit: rattle-kit-13f logic dac8208d650f15bf
+kit: rattle-kit-13b logic dac8208d650f15bf
 ";
 
 /// What the words may ask for in place of a run.
@@ -138,7 +114,10 @@ fn answer_words<
             serve_bound(rt, words, &run, bound, output)
         }
         Some(Form::Root(_) | Form::Prove(_, _)) => read_kept(rt, words, output),
-        None => end_plainly(rt, NAME, Status::NoForm),
+        None => {
+            tell_wrong_word(rt, words);
+            end_plainly(rt, NAME, Status::NoForm)
+        }
     }
 }
 
@@ -155,6 +134,9 @@ fn read_kept<R: Eprint + AllocGlobal + Files<File = File>, O: Sink + Troubled>(
     let mut port = MemPort::new(alloc, Vec::new(alloc), Vec::new(alloc));
     let mut keeper = ReadKeeper::new(alloc, rt);
     let ended = served(rt, alloc, words, &mut port, &mut keeper, output);
+    if keeper.is_missing() {
+        tell_missing(rt, words);
+    }
     drop(keeper);
     drop(port);
     ended
@@ -196,7 +178,7 @@ fn serve_bound<
 /// Runs the server over this port, which tells its requests where the environment asks for that, and gives the port back.
 fn serve_over<
     R: Eprint + AllocGlobal + Env + Files<File = File> + Clock,
-    P: Port + Drop,
+    P: PeerPort + Drop,
     O: Sink + Troubled,
 >(rt: &R, words: &[String], run: &RunWords<'_>, port: P, output: &mut O) -> (ExitCode, P)
     requires said { form_of (map string_bytes words.now) ≡ Some (Run (run_said run.now)) }

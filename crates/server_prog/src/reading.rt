@@ -23,6 +23,7 @@ pub(crate) struct ReadKeeper<'a, R: Files<File = File>> {
     files: &'a R,
     faults: u64,
     trouble: Option<Trouble>,
+    is_missing: bool,
 }
 
 impl<'a, R: Files<File = File>> ReadKeeper<'a, R> {
@@ -33,7 +34,13 @@ impl<'a, R: Files<File = File>> ReadKeeper<'a, R> {
             files,
             faults: 0,
             trouble: None,
+            is_missing: false,
         }
+    }
+
+    /// Whether the last load found no image.
+    pub(crate) fn is_missing(&self) -> bool {
+        self.is_missing
     }
 
     /// What came of a call, where a failure is counted and told.
@@ -120,6 +127,7 @@ impl<'a, R: Files<File = File>> Keeper for ReadKeeper<'a, R> {
         ensures cause { CountsFault KeepError.Failed self.old.faults self.new.faults result }
     {
         let read = read_image(self.alloc, self.files, name);
+        self.is_missing = matches!(&read, Ok(None));
         self.counted(FileStep::Read, read, name)
     }
 

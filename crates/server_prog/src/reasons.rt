@@ -3,7 +3,7 @@ ghost use Rattle.std.specs.Prelude.{◌≡◌};
 ghost use Rattle.std.specs.Process.{exit_status};
 
 use crate::program::NAME;
-use crate::words::form_of;
+use crate::words::{Form, form_of};
 use program_words::{Status, end, tell_plainly};
 use real_edge::{Trouble, tell_trouble};
 use std::process::ExitCode;
@@ -53,4 +53,17 @@ fn tell_image<R: Eprint>(rt: &R, words: &[String]) {
         let image = form.image();
         let _ = eprintln!(rt; "{NAME}: {image} is no server's image");
     }
+}
+
+/// Tells that what was written is of a new server, since there is no image.
+pub(crate) fn tell_missing<R: Eprint>(rt: &R, words: &[String]) {
+    let _ = match form_of(words) {
+        Some(Form::Root(image)) => eprintln!(rt;
+            "{NAME}: there is no {image}: this is the root of no files"
+        ),
+        Some(Form::Prove(image, _)) => eprintln!(rt;
+            "{NAME}: there is no {image}: this is a certificate of no files"
+        ),
+        Some(Form::Run(_)) | None => Ok(()),
+    };
 }

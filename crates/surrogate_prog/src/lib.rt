@@ -6,7 +6,9 @@ mod program;
 mod reasons;
 mod run;
 mod serving;
+mod wishing;
 mod words;
+mod wrong_word;
 
 pub use laws::{
     connections_are_counted, failed_runs_are_told, servings_keep_their_route,

@@ -8,15 +8,17 @@ ghost use Rattle.surrogate_prog.specs.Words.{Run, form_of, run_said};
 
 use crate::reasons::end_told;
 use crate::run::surrogate_run;
+use crate::wishing::end_unwished;
 use crate::words::{Form, RunWords, form_of};
-use child_runner::ChildRunner;
+use crate::wrong_word::tell_wrong_word;
+use child_runner::{ApartWish, ChildRunner};
 use cmd_capture::Runner;
 use outside::{Port, Sink};
 use program_words::{
     Pages, Status, checked_words, end_plainly, given_words, hold_places, is_logged, page_shown,
     tell_listening,
 };
-use real_edge::{LoggedPort, StdSink, TcpLink, TcpPort, Troubled};
+use real_edge::{LoggedPort, PeerPort, StdSink, TcpLink, TcpPort, Troubled, tell_addresses};
 use std::alloc::Global;
 use std::fs::File;
 use std::io;
@@ -28,50 +30,35 @@ use world_rules::Link;
 
 const HELP: &str = "\
 Usage: surrogate run LISTEN SERVER WORK COUNT
+       surrogate --help | --version
 
-Listens at LISTEN, takes one frame of each connection, and answers it before it
-takes the next one. A frame has a command that a client has run: it is run again
-here, on the server's files, and where what it makes agrees with the client's
-the server is asked to take it. At its end it writes 'served K faults F': K
-frames were taken, and F calls of the network failed. A fault ends one
-connection alone. Frames come in and answers go out side by side: a peer that is
-slow or silent holds up no other. But commands run one after the other, and one
-that runs long holds up the others. It may run for 500 seconds: then it is
-ended, and its client is told that it was not run.
+  run     runs clients' commands again, on the files of the server; what agrees
+          with a client's fingerprints, the server is asked to take
 
-LISTEN is an address with a port, and SERVER that of the server. WORK is a
-folder: each command runs in a folder of its own in it, with the rights of this
-program, and that is removed once the command has ended. Name the same WORK to
-the surrogate and to its clients, on one machine too: a command is run in the
-same place then, so that what it makes is the same where it names that place.
-What a surrogate left that was killed is removed at the next start with its
-WORK. COUNT is how many connections are taken, from 1 to 65536. Nothing is kept:
-a surrogate begins anew, and asks the server for its files.
+  LISTEN  the address to listen at, with a port, as 127.0.0.1:7002
+  SERVER  the server's address with a port
+  WORK    the folder in which commands run: the same text as the clients'
+  COUNT   how many connections are taken before it ends, 1 to 65536
 
-Standard error says where the surrogate listens, why a command was not run, and
-why the surrogate ends with a status that is not 0. What commands print is
-dropped. With HAURPIKO_LOG=1 in the environment it has a line for each request,
-too.
+Whoever reaches LISTEN runs programs with the rights of this program. Listen at
+127.0.0.1, let clients come through a tunnel, and use a user of its own.
+At its start it says on standard error how far programs run apart. Unless they
+do, they can reach SERVER, and write there under every client's number.
+With HAURPIKO_APART=0 in the environment they do not; HAURPIKO_SHOW=/a:/b names
+folders that such programs may read all the same.
+Commands run one after the other, for at most 500 seconds each. Nothing is kept:
+a surrogate that starts again asks the server for its files. At its end it
+writes 'served K faults F': K requests were taken, F calls of the network
+failed. With HAURPIKO_LOG=1, standard error has a line for each request, with
+time and peer. Statuses other than 0 have their reason there.
 
-Example:
-  surrogate run 127.0.0.1:7002 127.0.0.1:7001 /var/tmp/haurpiko 100
-
-The surrogate ends with one of these statuses:
-  0  COUNT connections were taken, or none is left
-  1  it cannot listen at LISTEN
-  2  the words have another form
-  4  standard output failed
-  7  memory ran out
-
-Options:
-  --help      shows this text
-  --version   shows the version, the formats and the kit
+For statuses and files: man haurpiko-surrogate
 ";
 
 const VERSION: &str = "\
 surrogate 0.1.0
 frames: version 3
-kit: rattle-kit-13f logic dac8208d650f15bf
+kit: rattle-kit-13b logic dac8208d650f15bf
 ";
 
 /// What the words may ask for in place of a run.
@@ -80,8 +67,9 @@ pub const PAGES: Pages = Pages {
     version: VERSION,
 };
 
-/// How many seconds a command may run. A client waits 600 seconds for the first byte of its answer: a command that is ended
-/// before is told in time as one that was not run, and the client ships its files in its place.
+/// How many seconds a command may run, less one for each 1,000,000 bytes of its job. A client waits 600 seconds for the first byte of
+/// its answer. What remains is for pulling the server's files, for judging and for asking the server, none of which has a limit as a
+/// whole: where all of that takes longer, the client takes the surrogate for silent.
 const COMMAND_SECONDS: u64 = 500;
 
 /// The program's name, as standard error tells it.
@@ -131,11 +119,17 @@ fn answer_words<
         return end_told(rt, status.code(), output.trouble());
     }
     match form_of(words) {
-        Some(Form::Run(run)) => {
-            let bound = TcpPort::bind(rt.alloc(), rt, run.address);
-            serve_bound(rt, words, &run, bound, output)
+        Some(Form::Run(run)) => match ApartWish::read(rt, true) {
+            Ok(wish) => {
+                let bound = TcpPort::bind(rt.alloc(), rt, run.address);
+                serve_bound(rt, words, &run, &wish, bound, output)
+            }
+            Err(refused) => end_unwished(rt, refused),
+        },
+        None => {
+            tell_wrong_word(rt, words);
+            end_plainly(rt, NAME, Status::NoForm)
         }
-        None => end_plainly(rt, NAME, Status::NoForm),
     }
 }
 
@@ -147,6 +141,7 @@ fn serve_bound<
     rt: &R,
     words: &[String],
     run: &RunWords<'_>,
+    wish: &ApartWish,
     bound: io::Result<TcpPort<'_, R>>,
     output: &mut O,
 ) -> ExitCode
@@ -160,7 +155,7 @@ fn serve_bound<
     match bound {
         Ok(port) => {
             tell_listening(rt, NAME, run.address, port.number());
-            let (ended, port) = serve_over(rt, words, run, port, output);
+            let (ended, port) = serve_over(rt, words, run, wish, port, output);
             port.finish();
             ended
         }
@@ -173,21 +168,30 @@ fn serve_bound<
 }
 
 /// Runs the surrogate over this port, which tells its requests where the environment asks for that, and gives the port back. What runs
-/// left in the work folder that were cut off is removed first.
+/// left in the work folder that were cut off is removed first. How far programs are kept apart is told then.
 fn serve_over<
     R: Eprint + AllocGlobal + Env + Files<File = File> + Net + Clock + Processes,
-    P: Port + Drop,
+    P: PeerPort + Drop,
     O: Sink + Troubled,
->(rt: &R, words: &[String], run: &RunWords<'_>, port: P, output: &mut O) -> (ExitCode, P)
+>(
+    rt: &R,
+    words: &[String],
+    run: &RunWords<'_>,
+    wish: &ApartWish,
+    port: P,
+    output: &mut O,
+) -> (ExitCode, P)
     requires said { form_of (map string_bytes words.now) ≡ Some (Run (run_said run.now)) }
     ensures bound { exit_status result.0 ≢ 1 }
     ensures form { exit_status result.0 ≢ 2 }
     ensures known { IsTrue (is_surrogate_exit (exit_status result.0)) }
 {
     let mut logged = LoggedPort::new(rt, NAME, port, is_logged(rt));
+    tell_addresses(rt, NAME, "SERVER", run.server.as_bytes());
     let mut link = TcpLink::new(rt.alloc(), rt);
     let mut runner = ChildRunner::at_surrogate(rt, NAME, Duration::from_secs(COMMAND_SECONDS));
     let _cleared = runner.clear(run.work.as_bytes());
+    runner.keep_apart(run.work.as_bytes(), wish, Vec::new(rt.alloc()));
     let ended = served(
         rt,
         rt.alloc(),
@@ -197,6 +201,7 @@ fn serve_over<
         &mut runner,
         output,
     );
+    drop(runner);
     (ended, logged.into_port())
 }
 
