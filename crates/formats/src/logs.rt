@@ -38,7 +38,7 @@ fn tell_command(command: &Command, told: &mut Told) -> Result<(), AllocError> {
 }
 
 /// Appends a line for each part of a command.
-fn put_command(text: &mut Vec<u8>, command: &Command) -> Result<(), AllocError> {
+pub(crate) fn put_command(text: &mut Vec<u8>, command: &Command) -> Result<(), AllocError> {
     put_line(text, "program ", command.program.bytes())?;
     put_contents(text, "argument ", command.args.as_slice())?;
     put_path_line(text, "in /", &command.cwd)?;

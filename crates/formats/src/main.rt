@@ -6,6 +6,7 @@ mod bytes;
 mod changes;
 mod frames;
 mod images;
+mod jobs;
 mod logs;
 mod looks;
 mod readers;

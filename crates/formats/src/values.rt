@@ -37,6 +37,31 @@ fn tell_path(path: &Path, told: &mut Told) -> Result<(), AllocError> {
     done
 }
 
+/// Reads a path, and tells the folder that it stands in.
+pub(crate) fn read_parent(alloc: Global, bytes: &[u8], told: &mut Told) -> Result<Answer, Fault> {
+    match Path::take(alloc, bytes, 0) {
+        Ok((path, next)) => {
+            let done = tell_parent(&path, told);
+            drop(path);
+            done?;
+            Ok(read_until(next, bytes))
+        }
+        Err(error) => not_taken(error),
+    }
+}
+
+fn tell_parent(path: &Path, told: &mut Told) -> Result<(), AllocError> {
+    match path.parent()? {
+        Some(parent) => {
+            let done = put_path(&mut told.text, "below /", &parent);
+            drop(parent);
+            done?;
+        }
+        None => put_word(&mut told.text, "at the top")?,
+    }
+    Path::spell(path, &mut told.written)
+}
+
 /// The number that a word tells, or the greatest, where it is above that.
 fn limit(word: &str, greatest: usize) -> Result<usize, Fault>
     ensures { IfOk result (λ limit. limit ≤ greatest) }
@@ -48,19 +73,19 @@ fn limit(word: &str, greatest: usize) -> Result<usize, Fault>
     Ok(limit)
 }
 
-/// Reads a content of at most so many bytes.
+/// Reads a content, of at most so many bytes where the rest of the line tells how many.
 pub(crate) fn read_content(
     alloc: Global,
     bytes: &[u8],
     rest: &str,
     told: &mut Told,
 ) -> Result<Answer, Fault> {
-    let most = if rest.is_empty() {
-        MAX_FILE
+    let taken = if rest.is_empty() {
+        Content::take(alloc, bytes, 0)
     } else {
-        limit(rest, MAX_FILE)?
+        Content::take_within(alloc, bytes, 0, limit(rest, MAX_FILE)?)
     };
-    match Content::take_within(alloc, bytes, 0, most) {
+    match taken {
         Ok((content, next)) => {
             let done = tell_content(&content, told);
             drop(content);
@@ -264,7 +289,11 @@ fn put_rows(alloc: Global, text: &mut Vec<u8>, rows: &[Row]) -> Result<(), Alloc
     Ok(())
 }
 
-fn put_node(alloc: Global, text: &mut Vec<u8>, node: Option<&Node>) -> Result<(), AllocError> {
+pub(crate) fn put_node(
+    alloc: Global,
+    text: &mut Vec<u8>,
+    node: Option<&Node>,
+) -> Result<(), AllocError> {
     match node {
         None => put_word(text, " nothing\n"),
         Some(Node::Folder) => put_word(text, " folder\n"),

@@ -7,11 +7,14 @@ pub(crate) enum Kind {
     Client,
     Server,
     Path,
+    /// A path, of which the folder that it stands in is looked at.
+    Parent,
     Content,
     Effects,
     Base,
     Rows,
     Command,
+    Job,
     Origin,
     Entry,
     Sketches,
@@ -57,17 +60,19 @@ pub(crate) enum Says {
     Wanted(Look),
 }
 
-const LINES: [(&str, Says); 24] = [
+const LINES: [(&str, Says); 26] = [
     ("frame", Says::Given(Kind::Frame)),
     ("payload", Says::Payload),
     ("client", Says::Given(Kind::Client)),
     ("server", Says::Given(Kind::Server)),
     ("path", Says::Given(Kind::Path)),
+    ("parent", Says::Given(Kind::Parent)),
     ("content", Says::Given(Kind::Content)),
     ("effects", Says::Given(Kind::Effects)),
     ("base", Says::Given(Kind::Base)),
     ("rows", Says::Given(Kind::Rows)),
     ("command", Says::Given(Kind::Command)),
+    ("job", Says::Given(Kind::Job)),
     ("origin", Says::Given(Kind::Origin)),
     ("entry", Says::Given(Kind::Entry)),
     ("sketches", Says::Given(Kind::Sketches)),
@@ -111,6 +116,7 @@ fn has_limits(kind: Kind) -> bool {
     match kind {
         Kind::Content | Kind::Effects | Kind::Base | Kind::Entry | Kind::Sketches => true,
         Kind::Frame | Kind::Client | Kind::Server => false,
-        Kind::Path | Kind::Rows | Kind::Command | Kind::Origin => false,
+        Kind::Path | Kind::Parent | Kind::Rows => false,
+        Kind::Command | Kind::Job | Kind::Origin => false,
     }
 }

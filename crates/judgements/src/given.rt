@@ -4,10 +4,12 @@ use crate::words::Kind;
 use scene_files::{Fault, number, small};
 use std::alloc::Global;
 
-/// Whose rows or effects are told: first the job's, then those of the client's run or of its entry, and then the replay's.
+/// Whose rows or effects are told: first the job's, then what stands beside it, then those of the client's run or of its entry, and then
+/// the replay's.
 #[derive(Clone, Copy, PartialEq, Eq)]
 pub(crate) enum Side {
     Job,
+    Beside,
     Client,
     Entry,
     Replay,
@@ -28,7 +30,8 @@ pub(crate) struct Given {
 pub(crate) fn may_stand(kind: Kind, side: Side) -> bool {
     match kind {
         Kind::Folder | Kind::File | Kind::Program => side != Side::Entry,
-        Kind::Client | Kind::Entry => side == Side::Job,
+        Kind::Beside => side == Side::Job,
+        Kind::Client | Kind::Entry => side == Side::Job || side == Side::Beside,
         Kind::Make | Kind::Put | Kind::Remove | Kind::Move | Kind::Mode => side == Side::Entry,
         Kind::Replay => side == Side::Client || side == Side::Entry,
         Kind::Template | Kind::Content | Kind::Parity | Kind::Spelling => true,
@@ -38,7 +41,7 @@ pub(crate) fn may_stand(kind: Kind, side: Side) -> bool {
 /// How many words the line has.
 fn count_of(kind: Kind) -> usize {
     match kind {
-        Kind::Content => 1,
+        Kind::Beside | Kind::Content => 1,
         Kind::Template
         | Kind::Folder
         | Kind::File
@@ -52,6 +55,11 @@ fn count_of(kind: Kind) -> usize {
     }
 }
 
+/// Whether the line may have so many words. A spelling that may be as long as any has no room behind its place.
+fn has_count(kind: Kind, words: usize) -> bool {
+    words == count_of(kind) || (kind == Kind::Spelling && words == 2)
+}
+
 /// What the words and the block give, where the words are as many as they have to be, and numbers where they have to be.
 pub(crate) fn given_by(
     alloc: Global,
@@ -60,7 +68,7 @@ pub(crate) fn given_by(
     words: &[&str],
     block: &[u8],
 ) -> Result<Given, Fault> {
-    if words.len() != count_of(kind) {
+    if !has_count(kind, words.len()) {
         return Err(Fault::Line("other words are wanted here"));
     }
     let first = word_at(words, 1);
@@ -99,7 +107,9 @@ fn check_words(kind: Kind, first: &str, second: &str) -> Result<(), Fault> {
         }
         Kind::Spelling => {
             number(first)?;
-            number(second)?;
+            if !second.is_empty() {
+                number(second)?;
+            }
         }
         Kind::Mode => {
             bit(second)?;
@@ -112,6 +122,7 @@ fn check_words(kind: Kind, first: &str, second: &str) -> Result<(), Fault> {
         | Kind::Put
         | Kind::Remove
         | Kind::Move
+        | Kind::Beside
         | Kind::Content => {}
     }
     Ok(())

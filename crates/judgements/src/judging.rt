@@ -29,7 +29,7 @@ fn raw_row(alloc: Global, one: &Given) -> Result<RawRow, AllocError> {
 }
 
 /// The rows of a side.
-fn raw_rows(alloc: Global, given: &[Given], side: Side) -> Result<RawRows, AllocError> {
+pub(crate) fn raw_rows(alloc: Global, given: &[Given], side: Side) -> Result<RawRows, AllocError> {
     let mut rows = RawRows::new(alloc);
     for one in given {
         if one.side == side && matches!(one.kind, Kind::Folder | Kind::File | Kind::Program) {
@@ -63,8 +63,8 @@ pub(crate) fn templates(alloc: Global, given: &[Given]) -> Result<Templates, All
     Ok(templates)
 }
 
-fn path_of(alloc: Global, text: &str) -> Result<Path, Fault> {
-    match Path::read(alloc, text.as_bytes()) {
+pub(crate) fn path_of(alloc: Global, text: &[u8]) -> Result<Path, Fault> {
+    match Path::read(alloc, text) {
         Ok(path) => Ok(path),
         Err(refused) => {
             drop(refused);
@@ -76,11 +76,11 @@ fn path_of(alloc: Global, text: &str) -> Result<Path, Fault> {
 /// The effect that a line of the entry tells.
 fn effect_of(alloc: Global, one: &Given) -> Result<Option<Effect>, Fault> {
     let effect = match one.kind {
-        Kind::Make => Effect::Make(path_of(alloc, &one.first)?),
+        Kind::Make => Effect::Make(path_of(alloc, one.first.as_bytes())?),
         Kind::Put => put_of(alloc, one)?,
-        Kind::Remove => Effect::Remove(path_of(alloc, &one.first)?),
+        Kind::Remove => Effect::Remove(path_of(alloc, one.first.as_bytes())?),
         Kind::Move => move_of(alloc, one)?,
-        Kind::Mode => Effect::Mode(path_of(alloc, &one.first)?, bit(&one.second)?),
+        Kind::Mode => Effect::Mode(path_of(alloc, one.first.as_bytes())?, bit(&one.second)?),
         Kind::Template
         | Kind::Folder
         | Kind::File
@@ -88,6 +88,7 @@ fn effect_of(alloc: Global, one: &Given) -> Result<Option<Effect>, Fault> {
         | Kind::Client
         | Kind::Entry
         | Kind::Replay
+        | Kind::Beside
         | Kind::Content
         | Kind::Parity
         | Kind::Spelling => return Ok(None),
@@ -97,18 +98,18 @@ fn effect_of(alloc: Global, one: &Given) -> Result<Option<Effect>, Fault> {
 
 fn put_of(alloc: Global, one: &Given) -> Result<Effect, Fault> {
     let content = Content::of(alloc, &one.bytes)?;
-    let path = path_of(alloc, &one.first)?;
+    let path = path_of(alloc, one.first.as_bytes())?;
     Ok(Effect::Put(path, content))
 }
 
 fn move_of(alloc: Global, one: &Given) -> Result<Effect, Fault> {
-    let from = path_of(alloc, &one.first)?;
-    let to = path_of(alloc, &one.second)?;
+    let from = path_of(alloc, one.first.as_bytes())?;
+    let to = path_of(alloc, one.second.as_bytes())?;
     Ok(Effect::Move(from, to))
 }
 
 /// The effects that the lines of the entry tell.
-fn effects_told(alloc: Global, given: &[Given]) -> Result<Effects, Fault> {
+pub(crate) fn effects_told(alloc: Global, given: &[Given]) -> Result<Effects, Fault> {
     let mut effects = Effects::new(alloc);
     for one in given {
         let effect = effect_of(alloc, one)?;
@@ -262,13 +263,19 @@ fn judged_told(
 ) -> Result<Vec<u8>, Fault>
     requires { AreJobRows rows }
 {
+    let job = job_on(alloc, given, rows)?;
+    let told = outcome_told(alloc, given, entry, &job);
+    drop(job);
+    told
+}
+
+/// The job of the command with these rows.
+pub(crate) fn job_on(alloc: Global, given: &[Given], rows: JobRows) -> Result<Job, Fault>
+    requires { AreJobRows rows }
+    ensures { IfOk result (λ job. AreJobRows job.rows) }
+{
     match command(alloc, given) {
-        Ok(command) => {
-            let job = Job { command, rows };
-            let told = outcome_told(alloc, given, entry, &job);
-            drop(job);
-            told
-        }
+        Ok(command) => Ok(Job { command, rows }),
         Err(error) => {
             drop(rows);
             Err(Fault::from(error))

@@ -2,6 +2,7 @@
 //! and products of the field.
 #![tactic(auto)]
 
+mod clashes;
 mod field;
 mod given;
 mod judging;

@@ -10,7 +10,7 @@ use cmd_capture::{JobRows, Templates};
 use mod_log::SketchEffects;
 use scene_files::Fault;
 use std::alloc::{AllocError, Global};
-use temp_names::{Renamed, fits, rename, renaming};
+use temp_names::{Renamed, fits, rename, renaming_of};
 use vol_tree::Content;
 
 /// The line with what the template in it says of its name. `''` is the empty template.
@@ -51,7 +51,7 @@ fn pairs_of(
     rows: &JobRows,
 ) -> Result<Vec<Renamed>, AllocError> {
     let templates = templates(alloc, given)?;
-    let found = renaming(alloc, &templates, effects, job, rows);
+    let found = renaming_of(alloc, &templates, effects, job, rows);
     drop(templates);
     found
 }

@@ -113,8 +113,12 @@ pub(crate) fn taken_told(alloc: Global, given: &[Given]) -> Result<Vec<u8>, Faul
         return Err(Fault::Line("there are no bytes"));
     };
     let place = number(&one.first)? as usize;
-    let room = number(&one.second)?;
-    match Sketch::take_within(alloc, &one.bytes, place, room) {
+    let taken = if one.second.is_empty() {
+        Sketch::take(alloc, &one.bytes, place)
+    } else {
+        Sketch::take_within(alloc, &one.bytes, place, number(&one.second)?)
+    };
+    match taken {
         Ok((sketch, next)) => {
             let told = tell_taken(alloc, &sketch, next);
             drop(sketch);

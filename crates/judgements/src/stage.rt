@@ -1,5 +1,6 @@
 // What scenes of judgements are played on.
 
+use crate::clashes::clash_told;
 use crate::field::element_told;
 use crate::given::{Given, Side, given_by, may_stand};
 use crate::judging::verdict_told;
@@ -59,6 +60,7 @@ impl Judgements {
 /// What is told behind a line that gives this.
 fn side_behind(kind: Kind, side: Side) -> Side {
     match kind {
+        Kind::Beside => Side::Beside,
         Kind::Client => Side::Client,
         Kind::Entry => Side::Entry,
         Kind::Replay => Side::Replay,
@@ -81,6 +83,7 @@ fn side_behind(kind: Kind, side: Side) -> Side {
 fn found(alloc: Global, given: &[Given], want: Want, words: &[&str]) -> Result<Vec<u8>, Fault> {
     match want {
         Want::Verdict => verdict_told(alloc, given),
+        Want::Clash => clash_told(alloc, given),
         Want::Pairs => pairs_told(alloc, given),
         Want::Renamed => renamed_told(alloc, given),
         Want::Repair => repair_told(alloc, given),

@@ -29,6 +29,8 @@ pub(crate) enum Kind {
     Move,
     Mode,
     Replay,
+    /// What is told from here on stands in the tree beside the job.
+    Beside,
     Content,
     Parity,
     Spelling,
@@ -38,6 +40,7 @@ pub(crate) enum Kind {
 #[derive(Clone, Copy)]
 pub(crate) enum Want {
     Verdict,
+    Clash,
     Pairs,
     Renamed,
     Repair,
@@ -64,11 +67,12 @@ pub(crate) enum Act {
 }
 
 /// The words that lines begin with.
-const WORDS: [(&str, Subject, Act); 32] = [
+const WORDS: [(&str, Subject, Act); 34] = [
     ("template", Subject::Runs, Act::Give(Kind::Template)),
     ("folder", Subject::Runs, Act::Give(Kind::Folder)),
     ("file", Subject::Runs, Act::Give(Kind::File)),
     ("program", Subject::Runs, Act::Give(Kind::Program)),
+    ("beside", Subject::Runs, Act::Give(Kind::Beside)),
     ("client", Subject::Runs, Act::Give(Kind::Client)),
     ("entry", Subject::Runs, Act::Give(Kind::Entry)),
     ("make", Subject::Runs, Act::Give(Kind::Make)),
@@ -81,6 +85,7 @@ const WORDS: [(&str, Subject, Act); 32] = [
     ("status", Subject::Runs, Act::Look(Want::Verdict)),
     ("odd", Subject::Runs, Act::Look(Want::Verdict)),
     ("mismatch", Subject::Runs, Act::Look(Want::Verdict)),
+    ("clash", Subject::Runs, Act::Look(Want::Clash)),
     ("pairs", Subject::Runs, Act::Look(Want::Pairs)),
     ("renamed", Subject::Runs, Act::Look(Want::Renamed)),
     ("content", Subject::Content, Act::Give(Kind::Content)),
@@ -129,7 +134,7 @@ pub(crate) fn has_block(first: &str, act: Act) -> bool {
             Want::Pairs | Want::Renamed | Want::Sketch => true,
             Want::Repair => first == "repaired",
             Want::Taken => first == "taken",
-            Want::Fit | Want::Element(_) => false,
+            Want::Clash | Want::Fit | Want::Element(_) => false,
         },
     }
 }

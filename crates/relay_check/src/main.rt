@@ -1,7 +1,7 @@
 //! A client, its surrogate and their server over TCP on this machine. The program starts itself as all three: a command that the
 //! client has run is run again by the surrogate, which has the server take what it made. What standard error is told of that, also
-//! of what cannot be done; a script that a command let be run; an answer that is lost; one folder for both; and what a surrogate left
-//! that was killed. Then a client alone, whose surrogate is this very process.
+//! of what cannot be done; a script that a command let be run; an answer that is lost; two surrogates, of which the first refuses; one
+//! folder for both; and what a surrogate left that was killed. Then a client alone, whose surrogate is this very process.
 #![tactic(auto)]
 
 mod asking;
@@ -13,10 +13,12 @@ mod twice;
 
 use asking::{ask, start, start_client};
 use clearing::show_clearing;
+use client_prog::client_main;
 use frames::{OTHER_STATUS, PULL};
 use link::show_port;
 use program_words::given_words;
-use scenes::{LINES, LOSS, SCRIPT, show_scene};
+use scenes::{LINES, LIST, LOSS, SCRIPT, show_scene};
+use server_prog::server_main;
 use std::fs::{self, File};
 use std::io;
 use std::net::Net;
@@ -25,7 +27,7 @@ use std::rt::{Env, Files};
 use std::time::Clock;
 use surrogate_prog::surrogate_main;
 use tcp_probe::{
-    CLIENT, SERVED, SERVER, forget, free_address, print_ended, print_ended_at, run_as,
+    CLIENT, IMAGE, NO_TERMINALS, SERVED, SERVER, forget, free_address, print_ended, print_ended_at,
 };
 use twice::show_one_folder;
 
@@ -47,8 +49,19 @@ fn main(rt: HostRuntime) -> io::Result<ExitCode> {
     let words = given_words(&rt)?;
     match words.split_first() {
         None => show(&rt),
-        Some((program, rest)) if program.as_str() == SURROGATE => Ok(surrogate_main(&rt, rest)),
-        Some(_) => Ok(run_as(&rt, &words)),
+        Some((program, words)) => Ok(run_as(&rt, program.as_str(), words)),
+    }
+}
+
+/// Runs the program of this name on the words behind it.
+fn run_as<
+    R: Input + Print + Eprint + AllocGlobal + Env + Files<File = File> + Net + Clock + Processes,
+>(rt: &R, program: &str, words: &[String]) -> ExitCode {
+    match program {
+        CLIENT => client_main(rt, NO_TERMINALS, words),
+        SERVER => server_main(rt, words),
+        SURROGATE => surrogate_main(rt, words),
+        _ => ExitCode::FAILURE,
     }
 }
 
@@ -74,6 +87,7 @@ fn show_all<R: Processes + Files<File = File> + Env + AllocGlobal + Net + Clock 
     show_scene(rt, &LINES)?;
     show_scene(rt, &SCRIPT)?;
     show_scene(rt, &LOSS)?;
+    show_scene(rt, &LIST)?;
     show_one_folder(rt)?;
     show_clearing(rt)?;
     forget(rt);
@@ -117,13 +131,14 @@ fn show_surrogate<R: Processes + Files + Env + AllocGlobal + Net + Clock + Print
     ask(rt, "rows after", server, &PULL)
 }
 
-/// A surrogate at this address takes four connections: three of strangers, and one of the client.
+/// A surrogate at this address takes twelve connections: three of strangers, one of the client, and eight of one that takes it for a
+/// server.
 fn ask_surrogate<R: Processes + Files + Env + AllocGlobal + Net + Clock + Print>(
     rt: &R,
     address: &str,
     server: &str,
 ) -> io::Result<()> {
-    let started = start(rt, SURROGATE, &["run", address, server, FAR, "4"])?;
+    let started = start(rt, SURROGATE, &["run", address, server, FAR, "12"])?;
     match ask_all(rt, address, server) {
         Ok(()) => print_ended_at(rt, SURROGATE, address, started),
         Err(error) => {
@@ -141,7 +156,9 @@ fn ask_all<R: Processes + Files + Env + AllocGlobal + Net + Clock + Print>(
     ask(rt, "no frame", address, b"")?;
     ask(rt, "a pull", address, &PULL)?;
     ask(rt, "another status", address, &OTHER_STATUS)?;
-    run_client(rt, server, address)
+    run_client(rt, server, address)?;
+    fs::remove_file(rt, IMAGE)?;
+    run_client(rt, address, "-")
 }
 
 /// Runs a client of this server and this surrogate to its end, and prints that.

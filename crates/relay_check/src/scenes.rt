@@ -26,6 +26,8 @@ pub(crate) struct Scene {
     at_surrogate: &'static str,
     /// Whether the surrogate's first answer to the client is lost.
     loses_an_answer: bool,
+    /// Whether the client has another address before the surrogate's, at which nothing listens.
+    is_second: bool,
 }
 
 /// What standard error is told: what commands print, why one was not run, and which way each entry went.
@@ -41,6 +43,7 @@ pub(crate) const LINES: Scene = Scene {
     at_server: "3",
     at_surrogate: "3",
     loses_an_answer: false,
+    is_second: false,
 };
 
 /// A command makes a script and lets it be run, and the next one runs it by its own name, where its files went and at the surrogate.
@@ -54,6 +57,7 @@ pub(crate) const SCRIPT: Scene = Scene {
     at_server: "4",
     at_surrogate: "2",
     loses_an_answer: false,
+    is_second: false,
 };
 
 /// The surrogate has done what it was asked for, and is asked once more.
@@ -65,6 +69,19 @@ pub(crate) const LOSS: Scene = Scene {
     at_server: "4",
     at_surrogate: "3",
     loses_an_answer: true,
+    is_second: false,
+};
+
+/// The client has two surrogates, and the first one refuses the connection.
+pub(crate) const LIST: Scene = Scene {
+    name: "two surrogates, of which the first refuses",
+    near: NEAR,
+    far: FAR,
+    input: INPUT,
+    at_server: "2",
+    at_surrogate: "2",
+    loses_an_answer: false,
+    is_second: true,
 };
 
 /// Shows a scene, which begins anew.
@@ -163,13 +180,22 @@ fn show_client<R: Processes + Files + Env + AllocGlobal + Net + Clock + Print>(
 }
 
 /// Starts the client, and types its input.
-fn type_input<R: Processes + Files + Env + AllocGlobal>(
+fn type_input<R: Processes + Files + Env + AllocGlobal + Net + Clock>(
     rt: &R,
     scene: &Scene,
     server: &str,
     surrogate: &str,
 ) -> io::Result<Child<R::Started>> {
-    start_client(rt, server, surrogate, scene.near, scene.input)
+    if !scene.is_second {
+        return start_client(rt, server, surrogate, scene.near, scene.input);
+    }
+    let first = free_address(rt)?;
+    let list = format!(in rt.alloc(); "{first},{surrogate}");
+    drop(first);
+    let list = list?;
+    let started = start_client(rt, server, &list, scene.near, scene.input);
+    drop(list);
+    started
 }
 
 /// The client asks this program, which carries frames to the surrogate, and answers back but for the first.

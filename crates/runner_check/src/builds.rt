@@ -6,8 +6,8 @@ ghost use Rattle.cmd_capture.specs.Spelling.{IsCommand};
 ghost use Rattle.cmd_capture.specs.Rows.{AreJobRows};
 ghost use Rattle.mod_log.specs.Origin.{OriginFits};
 
-use child_runner::ChildRunner;
-use cmd_capture::{Command, Job, Outcome, Runner, Words, capture, job_print};
+use crate::tests::{outcome_of, remove_work};
+use cmd_capture::{Command, Job, Outcome, Words, capture, job_print};
 use mod_log::{Log, Origin, SketchEntry, sketch_entry};
 use replay_judge::{Verdict, judge};
 use std::alloc::Global;
@@ -73,13 +73,12 @@ fn command(alloc: Global, script: &[u8]) -> Result<Command, Fail>
 
 /// Runs the job by a runner of its own in `work`, where it leaves nothing.
 fn ran(rt: &HostRuntime, work: &str, job: &Job) -> Result<Outcome, Fail> {
-    let mut runner = ChildRunner::at_client(rt, "client");
-    let outcome = runner.run(work.as_bytes(), job)?;
-    match fs::remove_dir(rt, work) {
+    let outcome = outcome_of(rt, work, job)?;
+    match remove_work(rt, work) {
         Ok(()) => Ok(outcome),
-        Err(error) => {
+        Err(fail) => {
             drop(outcome);
-            Err(Fail::from(error))
+            Err(fail)
         }
     }
 }

@@ -2,8 +2,12 @@
 #![tactic(auto)]
 
 #[cfg(test)]
+mod apart;
+#[cfg(test)]
 mod builds;
 #[cfg(test)]
 mod rights;
+#[cfg(test)]
+mod rows;
 #[cfg(test)]
 mod tests;

@@ -1,8 +1,7 @@
 //! The right to run a file: it goes from a run to the next, it is its owner's, and a link has none.
 
-use crate::tests::{captured, job, ran, ran_job, words};
-use child_runner::ChildRunner;
-use cmd_capture::{Job, Outcome, Runner};
+use crate::tests::{captured, job, outcome_of, ran, ran_job, words};
+use cmd_capture::{Job, Outcome};
 use std::rt::HostRuntime;
 use std::test::Fail;
 use std::time::Duration;
@@ -18,9 +17,7 @@ const BUILT: &str = "if [ -x /usr/bin/cc ]; then printf 'int main(void) { return
 /// What the script leaves.
 fn left_by(rt: &HostRuntime, work: &str, script: &str) -> Result<Outcome, Fail> {
     let job = job(rt, "/bin/sh", "", script)?;
-    let mut runner = ChildRunner::at_client(rt, "client");
-    let outcome = runner.run(work.as_bytes(), &job);
-    drop(runner);
+    let outcome = outcome_of(rt, work, &job);
     drop(job);
     Ok(outcome?)
 }

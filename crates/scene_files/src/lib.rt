@@ -1,5 +1,5 @@
 //! Scenes: tests that are data. A program that plays them says what its lines mean (`Stage`); what all of them have in common,
-//! files, blocks of bytes and what is told of differences, stands here. docs/SCENES.md has the languages.
+//! files, blocks of bytes and what is told of differences, stands here. docs/TESTING.md has the languages.
 #![tactic(auto)]
 
 mod blocks;

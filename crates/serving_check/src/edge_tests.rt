@@ -5,7 +5,7 @@ ghost use Rattle.wire_frames.specs.declared.message.Message.TheVariants.{Pull};
 ghost use Rattle.wire_frames.specs.Frame.{Spells};
 
 use outside::{Port, PortError};
-use real_edge::{TcpLink, TcpPort};
+use real_edge::{PeerPort, TcpLink, TcpPort};
 use std::alloc::{AllocError, Global};
 use std::cell::Cell;
 use std::io::{self, ErrorKind, Read, Write};
@@ -229,8 +229,12 @@ impl AsRawFd for Door {
     }
 }
 
-/// A network with such a listener.
-struct Town;
+/// A network with such a listener, whose clock goes on by so many seconds each time that it is asked.
+#[derive(Drop)]
+struct Town {
+    now: Cell<u64>,
+    step: u64,
+}
 
 impl Net for Town {
     type Stream = Other;
@@ -256,7 +260,9 @@ impl Net for Town {
 
 impl Clock for Town {
     fn monotonic(&self) -> io::Result<Duration> {
-        Ok(Duration::from_secs(1))
+        let now = self.now.get().saturating_add(self.step);
+        self.now.set(now);
+        Ok(Duration::from_secs(now))
     }
 
     fn since_1970(&self) -> io::Result<Duration> {
@@ -266,7 +272,11 @@ impl Clock for Town {
 
 /// Whether the first frame that is taken is the one that comes.
 fn is_taken(alloc: Global) -> Result<bool, Fail> {
-    let mut port = TcpPort::bind(alloc, &Town, "127.0.0.1:7001")?;
+    let town = Town {
+        now: Cell::new(1),
+        step: 0,
+    };
+    let mut port = TcpPort::bind(alloc, &town, "127.0.0.1:7001")?;
     let taken = port.take();
     drop(port);
     let is_taken = matches!(&taken, Ok(Some(frame)) if frame.as_slice() == SENT);
@@ -277,6 +287,28 @@ fn is_taken(alloc: Global) -> Result<bool, Fail> {
 #[test]
 fn a_lost_connection_and_a_silent_peer_hold_nothing_up(rt: HostRuntime) -> Result<(), Fail> {
     assert!(rt; is_taken(rt.alloc())?);
+    Ok(())
+}
+
+/// Whose connections two takes are about, of which the second one fails.
+fn peers_of_takes(alloc: Global) -> Result<[Option<SocketAddr>; 2], Fail> {
+    let town = Town {
+        now: Cell::new(1),
+        step: 10,
+    };
+    let mut port = TcpPort::bind(alloc, &town, "127.0.0.1:7001")?;
+    drop(port.take());
+    let first = port.peer();
+    drop(port.take());
+    let second = port.peer();
+    drop(port);
+    Ok([first, second])
+}
+
+#[test]
+fn a_peer_is_named_whose_frame_is_taken_or_never_came(rt: HostRuntime) -> Result<(), Fail> {
+    let peers = [Some(address_of(2)), Some(address_of(1))];
+    assert!(rt; peers_of_takes(rt.alloc())? == peers);
     Ok(())
 }
 

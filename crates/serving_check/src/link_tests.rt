@@ -5,7 +5,7 @@ ghost use Rattle.wire_frames.specs.declared.message.Message.{Message};
 ghost use Rattle.wire_frames.specs.Frame.{Spells};
 ghost use Rattle.world_rules.specs.Asking.{IsRequest};
 
-use real_edge::TcpLink;
+use real_edge::{Missed, TcpLink, Teller, Untold};
 use std::alloc::Global;
 use std::cell::Cell;
 use std::io::{self, ErrorKind, Read, Write};
@@ -13,7 +13,7 @@ use std::net::{Net, OpenListener, OpenStream, Shutdown, SocketAddr};
 use std::os::fd::{AsRawFd, RawFd};
 use std::test::Fail;
 use std::time::{Clock, Duration};
-use wire_frames::{Message, read};
+use wire_frames::{Head, Message, read};
 use world_rules::{Link, Peer};
 
 /// Entry 1 of client 1 ran `/bin/x` in the root, which made the folder `a` and gave status 0.
@@ -62,15 +62,37 @@ impl Time {
     }
 }
 
+/// What the peers of a network do.
+#[derive(Clone, Copy, Debug, PartialEq, Eq, Drop)]
+enum Manner {
+    /// They take all and give nothing.
+    Silent,
+    /// They refuse each connection.
+    Refusing,
+    /// They reset each connection that they have taken all of.
+    Breaking,
+}
+
 /// A peer that takes all and gives nothing.
 #[derive(Drop)]
 struct Peered<'t> {
     time: &'t Time,
+    manner: Manner,
+}
+
+impl<'t> Peered<'t> {
+    /// What a read meets.
+    fn wait(&self) -> io::Error {
+        if self.manner == Manner::Breaking {
+            return io::Error::from(ErrorKind::ConnectionReset);
+        }
+        self.time.wait()
+    }
 }
 
 impl<'t> Read for Peered<'t> {
     fn read(&mut self, _buf: &mut [u8]) -> io::Result<usize> {
-        Err(self.time.wait())
+        Err(self.wait())
     }
 }
 
@@ -105,7 +127,7 @@ impl<'t> OpenStream for Peered<'t> {
     }
 
     fn peek(&self, _buf: &mut [u8]) -> io::Result<usize> {
-        Err(self.time.wait())
+        Err(self.wait())
     }
 }
 
@@ -115,11 +137,11 @@ impl<'t> AsRawFd for Peered<'t> {
     }
 }
 
-/// A network of such peers, or one where each connection is refused.
+/// A network of such peers.
 #[derive(Clone, Copy, Drop)]
 struct Peers<'t> {
     time: &'t Time,
-    refuses: bool,
+    manner: Manner,
 }
 
 impl<'t> Net for Peers<'t> {
@@ -136,10 +158,13 @@ impl<'t> Net for Peers<'t> {
     }
 
     fn connect_timeout(&self, _address: SocketAddr, _wait: Duration) -> io::Result<Peered<'t>> {
-        if self.refuses {
+        if self.manner == Manner::Refusing {
             return Err(io::Error::from(ErrorKind::ConnectionRefused));
         }
-        Ok(Peered { time: self.time })
+        Ok(Peered {
+            time: self.time,
+            manner: self.manner,
+        })
     }
 }
 
@@ -175,12 +200,39 @@ impl<'t> Clock for Peers<'t> {
 trait Timed {
     /// Its time.
     fn now(&self) -> Duration;
+
+    /// So much of it goes by.
+    fn pass(&self, wait: Duration);
 }
 
 impl<'t> Timed for Peers<'t> {
     fn now(&self) -> Duration {
         self.time.now.get()
     }
+
+    fn pass(&self, wait: Duration) {
+        self.time.pass(wait);
+    }
+}
+
+/// Counts how often it is told that an ask is waited for.
+#[derive(Drop)]
+struct Counting<'c> {
+    waits: &'c Cell<u64>,
+}
+
+impl<'c> Teller for Counting<'c> {
+    fn begin(&mut self, _to: Peer, _request: Head, _frame: &[u8]) {}
+
+    fn sent(&mut self, _bytes: usize) {}
+
+    fn waits(&mut self) {
+        self.waits.set(self.waits.get().saturating_add(1));
+    }
+
+    fn came(&mut self, _bytes: usize) {}
+
+    fn end(&mut self, _address: &[u8], _reply: Result<&[u8], &Missed>) {}
 }
 
 /// Whom the message is for, where it is a request.
@@ -217,7 +269,18 @@ fn waits<N: Net + Clock + Timed>(
     net: &N,
     asks: &[(&str, &[u8]); 5],
 ) -> [Duration; 5] {
-    let mut link = TcpLink::new(alloc, net);
+    told_waits(alloc, net, Untold, Duration::from_secs(0), asks)
+}
+
+/// The same of a link that tells this one, where so much time goes by behind each ask.
+fn told_waits<N: Net + Clock + Timed, T: Teller + Drop>(
+    alloc: Global,
+    net: &N,
+    teller: T,
+    between: Duration,
+    asks: &[(&str, &[u8]); 5],
+) -> [Duration; 5] {
+    let mut link = TcpLink::telling(alloc, net, teller);
     let mut waits = [Duration::MAX; 5];
     for (wait, (address, frame)) in waits.iter_mut().zip(asks) {
         let start = net.now();
@@ -227,6 +290,7 @@ fn waits<N: Net + Clock + Timed>(
                 *wait = net.now().saturating_sub(start);
             }
             drop(reply);
+            net.pass(between);
         }
     }
     drop(link);
@@ -238,7 +302,7 @@ fn a_silent_surrogate_is_waited_for_long_once(rt: HostRuntime) -> Result<(), Fai
     let time = Time::new();
     let peers = Peers {
         time: &time,
-        refuses: false,
+        manner: Manner::Silent,
     };
     let first = OPERATION;
     let mut second = OPERATION;
@@ -261,7 +325,7 @@ fn an_address_that_refused_is_left_alone_for_a_moment(rt: HostRuntime) -> Result
     let time = Time::new();
     let peers = Peers {
         time: &time,
-        refuses: true,
+        manner: Manner::Refusing,
     };
     let asks = [
         (ONE, PULL),
@@ -272,5 +336,47 @@ fn an_address_that_refused_is_left_alone_for_a_moment(rt: HostRuntime) -> Result
     ];
     let [none, moment] = [Duration::from_millis(0), Duration::from_millis(250)];
     assert!(rt; waits(rt.alloc(), &peers, &asks) == [none, moment, none, moment, moment]);
+    Ok(())
+}
+
+#[test]
+fn each_try_that_breaks_is_followed_by_a_longer_pause(rt: HostRuntime) -> Result<(), Fail> {
+    let time = Time::new();
+    let peers = Peers {
+        time: &time,
+        manner: Manner::Breaking,
+    };
+    let [none, one] = [Duration::from_secs(0), Duration::from_secs(1)];
+    let [two, four] = [Duration::from_secs(2), Duration::from_secs(4)];
+    let asks: [(&str, &[u8]); 5] = [(ONE, PULL); 5];
+    let eight = Duration::from_secs(8);
+    assert!(rt; waits(rt.alloc(), &peers, &asks) == [none, one, two, four, eight]);
+    let asks = [
+        (ONE, PULL),
+        (ONE, PULL),
+        (OTHER, PULL),
+        (OTHER, PULL),
+        (ONE, PULL),
+    ];
+    assert!(rt; waits(rt.alloc(), &peers, &asks) == [none, one, none, one, two]);
+    Ok(())
+}
+
+#[test]
+fn a_pause_runs_off_and_is_told(rt: HostRuntime) -> Result<(), Fail> {
+    let time = Time::new();
+    let peers = Peers {
+        time: &time,
+        manner: Manner::Breaking,
+    };
+    let asks: [(&str, &[u8]); 5] = [(ONE, PULL); 5];
+    let three = Duration::from_secs(3);
+    let told = Cell::new(0);
+    let teller = Counting { waits: &told };
+    let waited = told_waits(rt.alloc(), &peers, teller, three, &asks);
+    let [none, one] = [Duration::from_secs(0), Duration::from_secs(1)];
+    // Of pauses of 1, 2, 4 and 8 s three went by already.
+    assert!(rt; waited == [none, none, none, one, Duration::from_secs(5)]);
+    assert!(rt; told.get() == 5 + 25);
     Ok(())
 }

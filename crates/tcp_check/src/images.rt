@@ -110,7 +110,7 @@ fn print_refused_load<R: Files<File = File> + Print>(
     print_trouble(rt, keeper)
 }
 
-fn print_load<R: Files<File = File> + Print>(
+pub(crate) fn print_load<R: Files<File = File> + Print>(
     rt: &R,
     image: &str,
     keeper: &mut FileKeeper<'_, R>,

@@ -1,15 +1,20 @@
 //! Clients and servers over TCP. First a server in this program: its clients, what strangers are to it, images that two programs
 //! want, and pieces that are appended to one. Then the programs with their words, as they are started: a server at a free address,
-//! at one in use and with a full output, and clients on bad streams and under hands. The program starts itself as the client and as
-//! the server.
+//! at one in use and with a full output, clients on bad streams and under hands, a drill, a log that is set aside, and what a server's
+//! image proves. The program starts itself as the client and as the server.
 #![tactic(auto)]
 
+mod certificates;
 mod clients;
 mod images;
+mod reasons;
 mod servers;
 mod serving;
+mod shelving;
 mod strangers;
+mod works;
 
+use client_prog::client_main;
 use clients::{
     refuse_words, run_on_a_closed_input, run_on_a_closed_output, run_on_a_folder,
     run_on_a_full_output, run_on_a_long_input, show_versions, type_lines,
@@ -18,31 +23,47 @@ use images::{
     append_pieces, fill_the_disk, run_on_other_images, serve_unkept, share_a_served_image,
     share_an_image,
 };
-use outside::{MemKeeper, Port};
+use outside::MemKeeper;
 use program_words::given_words;
 use real_edge::TcpPort;
+use reasons::{refuse_each_word, show_missing_images, show_reasons};
+use server_prog::server_main;
 use servers::{
     serve_at_a_free_address, serve_at_an_address_in_use, serve_on_closed_streams,
     serve_with_a_full_output,
 };
 use serving::{serve, serve_a_client_from};
+use shelving::{set_a_log_aside, show_drill};
 use std::fs::File;
 use std::io;
 use std::net::Net;
 use std::process::{ExitCode, Processes};
 use std::rt::{Env, Files};
 use std::time::Clock;
-use strangers::{FALSE_REPLIES, call_all, print_answers};
-use tcp_probe::{CLIENT, bound, forget, print_ended, run_as, run_lone_client, start_client_at};
+use strangers::{FALSE_REPLIES, call_all, mislead_by, print_answers};
+use tcp_probe::{CLIENT, NO_TERMINALS, SERVER, bound, forget, run_lone_client};
+use works::run_in_no_work;
 
 /// With words it is the client or the server, as the first one says. Without any it shows what both meet, and how both end.
 fn main(rt: HostRuntime) -> io::Result<ExitCode> {
     let words = given_words(&rt)?;
-    if words.is_empty() {
-        show_all(&rt)?;
-        Ok(ExitCode::SUCCESS)
-    } else {
-        Ok(run_as(&rt, &words))
+    match words.split_first() {
+        None => {
+            show_all(&rt)?;
+            Ok(ExitCode::SUCCESS)
+        }
+        Some((program, words)) => Ok(run_as(&rt, program.as_str(), words)),
+    }
+}
+
+/// Runs the program of this name on the words behind it.
+fn run_as<
+    R: Input + Print + Eprint + AllocGlobal + Env + Files<File = File> + Net + Clock + Processes,
+>(rt: &R, program: &str, words: &[String]) -> ExitCode {
+    match program {
+        CLIENT => client_main(rt, NO_TERMINALS, words),
+        SERVER => server_main(rt, words),
+        _ => ExitCode::FAILURE,
     }
 }
 
@@ -63,6 +84,7 @@ fn show_meetings<R: Processes + Files<File = File> + Env + AllocGlobal + Net + C
     serve_strangers(rt)?;
     mislead_a_client(rt)?;
     miss_the_server(rt)?;
+    show_reasons(rt)?;
     fill_the_disk(rt)?;
     serve_unkept(rt)?;
     share_an_image(rt)?;
@@ -76,6 +98,8 @@ fn show_programs<R: Processes + Files<File = File> + Env + AllocGlobal + Net + C
     rt: &R,
 ) -> io::Result<()> {
     refuse_words(rt)?;
+    refuse_each_word(rt)?;
+    show_missing_images(rt)?;
     show_versions(rt)?;
     serve_at_a_free_address(rt)?;
     serve_at_an_address_in_use(rt)?;
@@ -86,7 +110,10 @@ fn show_programs<R: Processes + Files<File = File> + Env + AllocGlobal + Net + C
     run_on_a_closed_output(rt)?;
     run_on_a_closed_input(rt)?;
     run_on_a_long_input(rt)?;
-    type_lines(rt)
+    type_lines(rt)?;
+    run_in_no_work(rt)?;
+    show_drill(rt)?;
+    set_a_log_aside(rt)
 }
 
 /// Serves one client that puts a file and ships it.
@@ -135,26 +162,7 @@ fn mislead_a_client<R: Processes + Files + Env + AllocGlobal + Net + Clock + Pri
     rt: &R,
 ) -> io::Result<()> {
     println!(rt; "-- a client and false replies")?;
-    let mut port = bound(rt)?;
-    match start_client_at(rt, &port) {
-        Ok(client) => {
-            answer_falsely(&mut port);
-            drop(port);
-            print_ended(rt, CLIENT, client)
-        }
-        Err(error) => {
-            drop(port);
-            Err(error)
-        }
-    }
-}
-
-fn answer_falsely<R: Net + Clock>(port: &mut TcpPort<'_, R>) {
-    for reply in FALSE_REPLIES {
-        if let Ok(Some(_frame)) = port.take() {
-            let _answered = port.answer(reply);
-        }
-    }
+    mislead_by(rt, &FALSE_REPLIES)
 }
 
 /// Runs a client whose server does not listen.

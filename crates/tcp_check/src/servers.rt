@@ -78,7 +78,7 @@ fn call_thrice<R: Processes + Files + Env + AllocGlobal + Net + Clock + Print>(
 }
 
 /// Calls the server without a byte, once it listens.
-fn call_once_it_listens<R: AllocGlobal + Net + Clock + Print>(
+pub(crate) fn call_once_it_listens<R: AllocGlobal + Net + Clock + Print>(
     rt: &R,
     address: &str,
 ) -> io::Result<()> {

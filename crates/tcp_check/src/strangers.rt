@@ -1,9 +1,12 @@
 // Peers that send no message.
+use outside::Port;
 use real_edge::TcpPort;
 use std::io;
 use std::net::Net;
+use std::process::Processes;
+use std::rt::{Env, Files};
 use std::time::Clock;
-use tcp_probe::{address_of, call_on, print_answer};
+use tcp_probe::{CLIENT, address_of, bound, call_on, print_answer, print_ended, start_client_at};
 
 /// A peer that connects, sends these bytes, and listens.
 #[derive(Clone, Copy)]
@@ -89,4 +92,31 @@ pub(crate) fn print_answers<R: AllocGlobal + Net + Print>(
         print_answer(rt, stranger.name, stream)?;
     }
     Ok(())
+}
+
+/// Answers each ask of a client by one of these, and prints how it ends.
+pub(crate) fn mislead_by<R: Processes + Files + Env + AllocGlobal + Net + Clock + Print>(
+    rt: &R,
+    replies: &[&[u8]; 8],
+) -> io::Result<()> {
+    let mut port = bound(rt)?;
+    match start_client_at(rt, &port) {
+        Ok(client) => {
+            answer_by(&mut port, replies);
+            drop(port);
+            print_ended(rt, CLIENT, client)
+        }
+        Err(error) => {
+            drop(port);
+            Err(error)
+        }
+    }
+}
+
+fn answer_by<R: Net + Clock>(port: &mut TcpPort<'_, R>, replies: &[&[u8]; 8]) {
+    for reply in replies {
+        if let Ok(Some(_frame)) = port.take() {
+            let _answered = port.answer(reply);
+        }
+    }
 }

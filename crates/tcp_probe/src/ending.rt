@@ -5,6 +5,12 @@ use std::process::{Child, OpenProcess, Output};
 /// How a line ends that tells how long something took.
 const MILLIS: &str = " ms";
 
+/// How the address of a peer of these programs begins.
+const LOOPBACK: &str = "127.0.0.1:";
+
+/// How many letters a time has.
+const TIME: usize = 20;
+
 /// Waits for the end of a program, and prints what it wrote and its status.
 ///
 /// # Errors
@@ -57,15 +63,52 @@ fn print_lines<R: Print>(rt: &R, address: &str, text: &str) -> io::Result<()> {
     Ok(())
 }
 
-/// Prints a line. What it has of the address or of a time at its end is not known before.
+/// Prints a line. What it has of the address, of peers or of times is not known before.
 fn print_line<R: Print>(rt: &R, address: &str, line: &str) -> io::Result<()> {
-    if let Some(untimed) = line.strip_suffix(MILLIS)
+    match logged(line) {
+        Some((program, what)) => {
+            print!(rt; "{program}: TIME PEER: ")?;
+            print_untimed(rt, what)
+        }
+        None => print_addressed(rt, address, line),
+    }
+}
+
+/// The program and what it tells of a request, where the line has a time and a peer in between.
+fn logged(line: &str) -> Option<(&str, &str)> {
+    let (program, told) = line.split_once(": ")?;
+    let (time, told) = told.split_once(' ')?;
+    let (peer, what) = told.split_once(": ")?;
+    if time.len() == TIME && time.ends_with('Z') && peer.starts_with(LOOPBACK) {
+        Some((program, what))
+    } else {
+        None
+    }
+}
+
+/// Prints what ends in a time that something took.
+fn print_untimed<R: Print>(rt: &R, what: &str) -> io::Result<()> {
+    if let Some(untimed) = what.strip_suffix(MILLIS)
         && let Some((before, _millis)) = untimed.rsplit_once(' ')
     {
         return println!(rt; "{before} T{MILLIS}");
     }
-    match line.split_once(address) {
-        Some((before, behind)) if !address.is_empty() => println!(rt; "{before}ADDRESS{behind}"),
-        _ => println!(rt; "{line}"),
+    println!(rt; "{what}")
+}
+
+/// Prints a line, and `ADDRESS` in the place of the address; of any peer's, where that is empty.
+fn print_addressed<R: Print>(rt: &R, address: &str, line: &str) -> io::Result<()> {
+    if !address.is_empty() {
+        return match line.split_once(address) {
+            Some((before, behind)) => println!(rt; "{before}ADDRESS{behind}"),
+            None => println!(rt; "{line}"),
+        };
+    }
+    match line.split_once(LOOPBACK) {
+        Some((before, behind)) => {
+            let behind = behind.trim_start_matches(|letter: char| letter.is_ascii_digit());
+            println!(rt; "{before}ADDRESS{behind}")
+        }
+        None => println!(rt; "{line}"),
     }
 }

@@ -5,14 +5,15 @@
 mod calling;
 mod ending;
 mod places;
-mod playing;
 mod starting;
 
 pub use calling::{call_on, call_slowly, print_answer};
 pub use ending::{print_ended, print_ended_at};
-pub use places::{IMAGE, LOCK, SERVED, SERVED_LOCK, WORK, address_of, bound, forget, free_address};
-pub use playing::run_as;
+pub use places::{
+    IMAGE, LOCK, NEW, OTHER, SERVED, SERVED_LOCK, WORK, address_of, bound, forget, free_address,
+};
 pub use starting::{
-    CLIENT, SERVER, client_command, command_by, command_of, lone_client_by, lone_client_command,
-    run_client, run_lone_client, spawned, start_client_at, started, type_to,
+    CLIENT, NO_TERMINALS, SERVER, client_command, command_by, command_of, lone_client_by,
+    lone_client_command, run_client, run_lone_client, run_on, spawned, start_client_at, started,
+    type_input, type_to,
 };

@@ -9,6 +9,12 @@ use std::{fs, io};
 /// The image of each client.
 pub const IMAGE: &str = "image";
 
+/// The image of a second client.
+pub const OTHER: &str = "other";
+
+/// The image of a client that goes on for another one.
+pub const NEW: &str = "new";
+
 /// The lock of each client's image.
 pub const LOCK: &str = "image.lock";
 
@@ -21,8 +27,21 @@ pub const SERVED_LOCK: &str = "served.lock";
 /// The folder in which each client runs programs.
 pub const WORK: &str = "work";
 
-/// All that belongs to both.
-const FILES: [&str; 6] = [IMAGE, "image.new", LOCK, SERVED, "served.new", SERVED_LOCK];
+/// All that belongs to them.
+const FILES: [&str; 12] = [
+    IMAGE,
+    "image.new",
+    LOCK,
+    OTHER,
+    "other.new",
+    "other.lock",
+    NEW,
+    "new.new",
+    "new.lock",
+    SERVED,
+    "served.new",
+    SERVED_LOCK,
+];
 
 /// Removes what a client or a server left.
 pub fn forget<R: Files>(rt: &R) {

@@ -1,7 +1,7 @@
 // This very program, started once more as the client or the server.
 use crate::ending::print_ended;
 use crate::places::{IMAGE, WORK, address_of, free_address};
-use real_edge::TcpPort;
+use real_edge::{TcpPort, Terminals};
 use std::io::Write;
 use std::net::Net;
 use std::path::Path;
@@ -15,6 +15,12 @@ pub const CLIENT: &str = "client";
 
 /// The first word of this program where it is the server.
 pub const SERVER: &str = "server";
+
+/// No stream of a program that is started so is a terminal.
+pub const NO_TERMINALS: Terminals = Terminals {
+    is_typed: false,
+    is_shown: false,
+};
 
 /// The shell.
 const SHELL: &str = "/bin/sh";
@@ -91,6 +97,9 @@ fn own_command<R: Files + Env + AllocGlobal>(rt: &R) -> io::Result<Command> {
     Ok(made?)
 }
 
+/// Says whether programs are kept apart. What is shown is to be the same on each machine, so they are not.
+const APART: &str = "HAURPIKO_APART";
+
 fn add_all<R: Files + Env + AllocGlobal>(
     rt: &R,
     command: &mut Command,
@@ -100,6 +109,7 @@ fn add_all<R: Files + Env + AllocGlobal>(
     add_loader_words(rt, command)?;
     command.arg(program)?;
     command.args(words)?;
+    command.env(APART, "0")?;
     command.stdin(Stdio::piped());
     command.stdout(Stdio::piped());
     command.stderr(Stdio::piped());
@@ -190,9 +200,31 @@ pub fn started<R: Processes>(rt: &R, command: Command) -> io::Result<Child<R::St
 
 /// Types what a client is to do. One with other words reads nothing.
 pub fn type_to<P: OpenProcess + Drop>(client: &mut Child<P>) {
-    if let Some(mut stdin) = client.stdin.take() {
-        let _written = stdin.write_all(INPUT);
+    type_input(client, INPUT);
+}
+
+/// Types this to a program, and ends its input.
+pub fn type_input<P: OpenProcess + Drop>(started: &mut Child<P>, input: &[u8]) {
+    if let Some(mut stdin) = started.stdin.take() {
+        let _written = stdin.write_all(input);
     }
+}
+
+/// Runs a program on these words and this input to its end, and prints that.
+///
+/// # Errors
+///
+/// The platform's.
+pub fn run_on<R: Processes + Files + Env + AllocGlobal + Print>(
+    rt: &R,
+    program: &str,
+    words: &[&str],
+    input: &[u8],
+) -> io::Result<()> {
+    let command = command_of(rt, program, words)?;
+    let mut started = spawned(rt, command)?;
+    type_input(&mut started, input);
+    print_ended(rt, program, started)
 }
 
 /// Starts a client of the server at this port, and types what it is to do.

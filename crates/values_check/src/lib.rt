@@ -1,5 +1,5 @@
 //! Tests of what is no value in bytes and no whole run, where scenes have the others: fields read with a state, lines cut from pieces,
-//! copies, a record by itself, a shelf, and the texts of refusals.
+//! copies, a record by itself, rows, a shelf, and the texts of refusals.
 #![tactic(auto)]
 
 #[cfg(test)]
@@ -8,6 +8,8 @@ mod fields;
 mod lines;
 #[cfg(test)]
 mod records;
+#[cfg(test)]
+mod rows;
 #[cfg(test)]
 mod shelves;
 #[cfg(test)]

@@ -1,14 +1,11 @@
-//! Times a tree. With the word `measure` it looks up the paths of files and puts files, at 10, 1,000, 16,000 and 16,384 rows,
-//! and looks up the texts of the same paths in a `BTreeMap`. It prints for each number of rows how many paths were found,
-//! the nanoseconds of that, how many puts were applied, the nanoseconds of that, how many texts were found, and the
-//! nanoseconds of that. `bench/tree/run.sh` makes figures of it. With no word it does nothing.
-#![tactic(auto)]
+//! Times a tree. It looks up the paths of files and puts files, at 10, 1,000, 16,000 and 16,384 rows, and looks up the texts of the
+//! same paths in a `BTreeMap`. It prints for each number of rows how many paths were found, the nanoseconds of that, how many puts were
+//! applied, the nanoseconds of that, how many texts were found, and the nanoseconds of that.
 
 ghost use Rattle.std.specs.Prelude.{◌<◌};
 
 use std::alloc::{AllocError, Global};
 use std::collections::BTreeMap;
-use std::env;
 use std::time::Instant;
 use vol_tree::{Content, Effect, Path, Tree, TryCopy};
 
@@ -189,14 +186,9 @@ fn measure(rt: &HostRuntime, folders: u32, rows: u32) -> Result<(), anyhow::Erro
     measure_files(rt, &mut tree, &texts, &paths)
 }
 
-fn main(rt: HostRuntime) -> Result<(), anyhow::Error> {
-    let mut words = env::args(&rt)?;
-    let wanted = words.any(|word| word.as_str() == "measure");
-    if !wanted {
-        return Ok(());
-    }
-    measure(&rt, 2, 10)?;
-    measure(&rt, 64, 1_000)?;
-    measure(&rt, 64, 16_000)?;
-    measure(&rt, 64, 16_384)
+pub(crate) fn measure_trees(rt: &HostRuntime) -> Result<(), anyhow::Error> {
+    measure(rt, 2, 10)?;
+    measure(rt, 64, 1_000)?;
+    measure(rt, 64, 16_000)?;
+    measure(rt, 64, 16_384)
 }

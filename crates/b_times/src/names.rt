@@ -1,8 +1,6 @@
-//! Times renamings. With the word `measure` it renames the 1,024 and the 4,096 files that a replay left in one folder, half of
-//! them by their contents and half by their places, and makes the change list. It prints for each number of files how many
-//! pairs were found, the nanoseconds of that, the nanoseconds of the renaming of rows, how many changes there are, and the
-//! nanoseconds of that. `bench/names/run.sh` makes figures of it. With no word it does nothing.
-#![tactic(auto)]
+//! Times renamings: of the 1,024 and the 4,096 files that a replay left in one folder, half of them by their contents and half by
+//! their places, and the change list. It prints for each number of files how many pairs were found, the nanoseconds of that, the
+//! nanoseconds of the renaming of rows, how many changes there are, and the nanoseconds of that.
 
 ghost use Rattle.std.specs.Prelude.{IfOk};
 ghost use Rattle.cmd_capture.specs.Rows.{AreJobRows};
@@ -11,9 +9,8 @@ use cmd_capture::{JobRows, RawRow, RawRows, Templates};
 use mod_log::{SketchEffect, SketchEffects};
 use rs_parity::sketch_of;
 use std::alloc::{AllocError, Global};
-use std::env;
 use std::time::Instant;
-use temp_names::{Renamed, rename, renaming};
+use temp_names::{Renamed, rename, renaming_of};
 use vol_tree::{Content, Node, Path, TryCopy};
 use work_area::{changes, rows_of};
 
@@ -128,7 +125,7 @@ fn time_naming(
 ) -> Result<Naming, anyhow::Error> {
     let templates = templates_of(rt.alloc())?;
     let start = Instant::now(rt)?;
-    let pairs = renaming(rt.alloc(), &templates, effects, job, left)?;
+    let pairs = renaming_of(rt.alloc(), &templates, effects, job, left)?;
     let nanos = start.elapsed(rt)?.as_nanos();
     Ok(Naming { pairs, nanos })
 }
@@ -194,12 +191,7 @@ fn measure(rt: &HostRuntime, files: u32) -> Result<(), anyhow::Error> {
     measure_named(rt, files, &job, left, &naming?)
 }
 
-fn main(rt: HostRuntime) -> Result<(), anyhow::Error> {
-    let mut words = env::args(&rt)?;
-    let wanted = words.any(|word| word.as_str() == "measure");
-    if !wanted {
-        return Ok(());
-    }
-    measure(&rt, 1_024)?;
-    measure(&rt, 4_096)
+pub(crate) fn measure_names(rt: &HostRuntime) -> Result<(), anyhow::Error> {
+    measure(rt, 1_024)?;
+    measure(rt, 4_096)
 }

@@ -1,12 +1,6 @@
-//! Times the repair of a file. With the words `measure PATH BLOCKS SYMBOLS` it changes so many symbols in each of the first blocks, and
-//! prints the nanoseconds of the file's sketch, those of the repair, and whether the repair gave the file. With the word `products` it
-//! times products in the field, and with no word it does nothing. `bench/repair/run.sh` compares the repair with a decoder in C,
-//! `bench/parity/run.sh` the sketch with `par2 create`, and `bench/field/run.sh` the products with tables in C.
-#![tactic(auto)]
+//! Times the repair of a file. Behind the word for it stand PATH, BLOCKS and SYMBOLS: so many symbols are changed in each of the first
+//! blocks. It prints the nanoseconds of the file's sketch, those of the repair, and whether the repair gave the file.
 
-mod products;
-
-use products::measure_products;
 use rs_parity::{BLOCK, sketch_of};
 use rs_repair::repair;
 use std::alloc::{AllocError, Global};
@@ -59,25 +53,16 @@ fn measure_repair(
     Ok(())
 }
 
-fn main(rt: HostRuntime) -> Result<(), anyhow::Error> {
-    let mut words = env::args(&rt)?.skip(1);
-    let Some(verb) = words.next() else {
-        return Ok(());
-    };
-    if verb.as_str() == "products" {
-        return measure_products(&rt);
-    }
-    let (Some(path), Some(blocks), Some(symbols)) = (words.next(), words.next(), words.next())
-    else {
-        return Ok(());
-    };
-    if verb.as_str() == "measure" {
-        measure_repair(
-            &rt,
+/// Repairs the file that the words behind the first one name.
+pub(crate) fn measure_repairs(rt: &HostRuntime) -> Result<(), anyhow::Error> {
+    let mut words = env::args(rt)?.skip(2);
+    match (words.next(), words.next(), words.next()) {
+        (Some(path), Some(blocks), Some(symbols)) => measure_repair(
+            rt,
             path.as_str(),
             blocks.parse::<u8>()?,
             symbols.parse::<u8>()?,
-        )?;
+        ),
+        _ => Ok(()),
     }
-    Ok(())
 }

@@ -1,20 +1,13 @@
-//! Times a server. With the word `measure` it serves stores of small files: one for each of so many rows, then more of them
-//! for rows that stand, then some for new rows, and then pulls; with 10 and with 16,000 rows, in one folder and in 64. The
-//! names come in an order in which neighbours are far apart. For each round it prints the rows, the folders, how many stores
-//! made the rows, how many were timed for rows that stand, how many of them were accepted and their nanoseconds, the same
-//! for new rows, and the bytes and the nanoseconds of the answers to pulls. `bench/server/run.sh` makes figures of it. With
-//! the word `frames` it times the reading and the writing of frames, of which `bench/wire/run.sh` makes figures. With no
-//! word it does nothing.
-#![tactic(auto)]
+//! Times a server. It serves stores of small files: one for each of so many rows, then more of them for rows that stand, then some
+//! for new rows, and then pulls; with 10 and with 16,000 rows, in one folder and in 64. The names come in an order in which neighbours
+//! are far apart. For each round it prints the rows, the folders, how many stores made the rows, how many were timed for rows that
+//! stand, how many of them were accepted and their nanoseconds, the same for new rows, and the bytes and the nanoseconds of the answers
+//! to pulls.
 
 ghost use Rattle.std.specs.Prelude.{◌<◌};
 
-mod frames;
-
-use frames::measure_frames;
 use server_core::Server;
 use std::alloc::{AllocError, Global};
-use std::env;
 use std::time::Instant;
 
 /// How many stores for rows that stand are timed.
@@ -250,18 +243,9 @@ fn measure(
 }
 
 /// Times servers with 10 and with 16,000 rows, in one folder and in 64.
-fn measure_servers(rt: &HostRuntime) -> Result<(), anyhow::Error> {
+pub(crate) fn measure_servers(rt: &HostRuntime) -> Result<(), anyhow::Error> {
     measure(rt, 100, 10, 1, 10)?;
     measure(rt, 100, 10, 64, 10)?;
     measure(rt, 5, 16_000, 1, 300)?;
     measure(rt, 5, 16_000, 64, 300)
-}
-
-fn main(rt: HostRuntime) -> Result<(), anyhow::Error> {
-    let mut words = env::args(&rt)?.skip(1);
-    match words.next() {
-        Some(word) if word.as_str() == "measure" => measure_servers(&rt),
-        Some(word) if word.as_str() == "frames" => measure_frames(&rt),
-        _ => Ok(()),
-    }
 }

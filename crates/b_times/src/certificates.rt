@@ -1,12 +1,9 @@
-//! Times certificates. With the word `measure` it makes a tree of 128 folders with 127 files each, 16,384 rows and 32 MiB, and prints
-//! the nanoseconds of SHA-256 over all bytes of the files in a row and its first byte, the nanoseconds of the tree's root, those of the
-//! certificate of a file in the middle, the bytes of that, the nanoseconds of its check, and what that finds. With no word it does
-//! nothing. `bench/certificates/run.sh` makes figures of it.
-#![tactic(auto)]
+//! Times certificates. It makes a tree of 128 folders with 127 files each, 16,384 rows and 32 MiB, and prints the nanoseconds of SHA-256
+//! over all bytes of the files in a row and its first byte, the nanoseconds of the tree's root, those of the certificate of a file in
+//! the middle, the bytes of that, the nanoseconds of its check, and what that finds.
 
 use sha2::{Digest, Sha256};
 use std::alloc::{AllocError, Global};
-use std::env;
 use std::time::Instant;
 use tree_proof::{Finding, check, prove, root_of};
 use vol_tree::{Content, Effect, Path, Tree};
@@ -104,7 +101,7 @@ fn measure_tree(rt: &HostRuntime, tree: &Tree) -> Result<(), anyhow::Error> {
     Ok(())
 }
 
-fn measure(rt: &HostRuntime) -> Result<(), anyhow::Error> {
+pub(crate) fn measure_certificates(rt: &HostRuntime) -> Result<(), anyhow::Error> {
     let alloc = rt.alloc();
     let mut tree = Tree::new(alloc);
     let mut all = Vec::new(alloc);
@@ -114,12 +111,4 @@ fn measure(rt: &HostRuntime) -> Result<(), anyhow::Error> {
     measure_hash(rt, &all)?;
     drop(all);
     measure_tree(rt, &tree)
-}
-
-fn main(rt: HostRuntime) -> Result<(), anyhow::Error> {
-    let mut words = env::args(&rt)?;
-    if words.any(|word| word.as_str() == "measure") {
-        return measure(&rt);
-    }
-    Ok(())
 }
