@@ -1,6 +1,6 @@
 #!/usr/bin/env python3
 """image.py FILE: writes a server's image of 128 folders with 127 files of 2,064 bytes each, 16,384 rows and 32 MiB, all at version 1: the
-tree that the program proof_bench makes."""
+tree that the program b_times makes."""
 import struct
 import sys
 

@@ -8,7 +8,7 @@ set -eu
 . "$(dirname "$0")/../common.sh"
 wants python3 python3 awk mawk
 programs server client
-bench proof_bench
+bench b_times
 make_work_in /dev/shm
 python3 "$here/image.py" "$work/image"
 peer=''
@@ -29,7 +29,7 @@ timed() {
 
 middle=ea/dp
 for _ in 1 2 3 4 5; do
-    measured proof_bench measure | awk '{ print "hash", $1; print "root_of", $3; print "prove", $4; print "size", $5; print "check", $6
+    measured b_times certificates | awk '{ print "hash", $1; print "root_of", $3; print "prove", $4; print "size", $5; print "check", $6
         if ($7 != "row") print "wrong", 0 }'
     [ -z "$peer" ] || timed openssl openssl dgst -sha256 "$work/bytes"
     timed server-root "$SERVER" root "$work/image"

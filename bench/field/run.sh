@@ -9,9 +9,9 @@ set -eu
 wants cc gcc awk mawk
 make_work
 cc -O2 -o "$work/tables" "$here/tables.c"
-bench repair_bench
+bench b_times
 for _ in 1 2 3 4 5; do
-    measured repair_bench products | sed 's/^/ours /'
+    measured b_times products | sed 's/^/ours /'
     "$work/tables" | sed 's/^/theirs /'
 done > "$work/times"
 awk '

@@ -1,5 +1,5 @@
 /* The product in GF(2^16) modulo x^16 + x^12 + x^3 + x + 1 by tables of logarithms and powers, to compare with.
- * Prints the checksum, the nanoseconds and the number of products, as repair_bench does. */
+ * Prints the checksum, the nanoseconds and the number of products, as b_times does. */
 #include <stdint.h>
 #include <stdio.h>
 #include <time.h>

@@ -176,7 +176,7 @@ def are_apart(image, other):
 
 
 def has_client_form(words):
-    """Whether the words behind the client's name ask for something, by README's forms."""
+    """Whether the words behind the client's name ask for something, by the forms of its `--help`."""
     if words[0] == b"run" and len(words) == 6 and all(words):
         asked = words[4].split(b",")
         return is_count(words[1], 64) and (words[4] == b"-" or len(asked) <= 8 and all(asked))
@@ -191,7 +191,7 @@ def has_client_form(words):
 
 
 def has_form(name, words):
-    """Whether the words ask for something, by README's forms. Words that are no UTF-8 have none."""
+    """Whether the words ask for something, by the forms of `--help`. Words that are no UTF-8 have none."""
     if not words or not is_text(b" ".join(words)):
         return False
     if name == "client":

@@ -10,7 +10,7 @@
 #            status is 0, and the image has the numbers of the last line
 #   lines    words, quotes and odd bytes: sessions of four clients with one server, with syncs and pulls, each again on its image, also
 #            behind a server that was ended or lost its image, with a full log, and with too long an input
-#   words    of the command line: a status of README's table, with its line on standard error
+#   words    of the command line: a status of docs/ANSWERS.md, with its line on standard error
 # No program is ended by a signal, or takes longer than two minutes. It ends with 1 where anything differs, and tells each finding.
 #
 #   bench/fuzz/run.sh [COUNT [SECONDS [SEED [ROUND]]]]

@@ -16,7 +16,7 @@ NO_MESSAGE = b"\0\0\0\0"
 # How long a scene waits for the client's answer.
 PATIENCE = 600
 
-programs, lock, over = [], threading.Lock(), threading.Event()
+programs, disks, lock, over = [], [], threading.Lock(), threading.Event()
 
 
 def start(words, **streams):
@@ -48,7 +48,11 @@ class Scene:
             free.bind(("127.0.0.1", 0))
             self.port = free.getsockname()[1]
         self.work, self.peers = work, []
-        image = os.path.join(work, "server.image")
+        self.serve()
+
+    def serve(self):
+        """Starts the server."""
+        image = os.path.join(self.work, "server.image")
         self.server = start([SERVER, "run", f"127.0.0.1:{self.port}", image, "65536"],
                             stdin=subprocess.DEVNULL, stdout=subprocess.DEVNULL)
         while not listens(self.port):
@@ -262,6 +266,43 @@ def without_handles(work):
     return f"up, on {share:.1f} % of a processor; then {text.strip()}", good and share < 5
 
 
+def on_a_full_disk(work):
+    """The server keeps its image on a disk of 600 KiB, which has no room for a second one."""
+    if os.geteuid() != 0:
+        return "left out: only root mounts a disk", True
+    disk = os.path.join(work, "disk")
+    os.mkdir(disk)
+    with lock:
+        made = subprocess.run(["mount", "-t", "tmpfs", "-o", "size=600k", "tmpfs", disk], stderr=subprocess.DEVNULL)
+        if made.returncode:
+            return "left out: no disk can be mounted here", True
+        disks.append(disk)
+    scene = Scene(disk)
+
+    def say(number, lines):
+        client = start([CLIENT, "run", number, os.path.join(work, f"{number}.image"), f"127.0.0.1:{scene.port}", "-", "work"],
+                       stdin=subprocess.PIPE, stdout=subprocess.PIPE, stderr=subprocess.DEVNULL, text=True)
+        return client.communicate(lines)[0].split("\n")
+
+    image, beside = os.path.join(disk, "server.image"), os.path.join(disk, "server.image.new")
+    filled = "synced 1" in say("1", f"put a {'a' * 300_000}\nsync\n")
+    scene.server.terminate()
+    scene.server.wait()
+    with open(image, "rb") as kept:
+        before = kept.read()
+    scene.serve()
+    # The first change of a run writes the whole image.
+    refused = "unanswered 1" in say("2", f"put b {'b' * 50_000}\nsync\n")
+    status = scene.server.wait()
+    with open(image, "rb") as kept:
+        same = kept.read() == before
+    left = os.path.exists(beside)
+    scene.serve()
+    read = any(line.startswith("pulled") for line in say("3", "pull\n"))
+    text = f"status {status}, IMAGE {'as before' if same else 'CHANGED'}, {'IMAGE.new LEFT' if left else 'no IMAGE.new'}"
+    return text + (", then pulled" if read else ", then NOT pulled"), filled and refused and status == 5 and same and not left and read
+
+
 SCENES = [
     ("alone", "2 s", silent(0, 2)),
     ("1 silent peer", "2 s", silent(1, 2)),
@@ -279,6 +320,7 @@ SCENES = [
     ("64 clients side by side", "10 s", side_by_side(10)),
     ("5,000 connections in a row", "60 s", in_a_row(5_000, 60)),
     ("handles: none for 60 s, then 64", "up, below 5 %", without_handles),
+    ("full: a disk of 600 KiB", "5, IMAGE as before, pulls go on", on_a_full_disk),
 ]
 
 
@@ -308,6 +350,8 @@ def main(words):
                 for program in programs:
                     program.kill()
                     program.wait()
+                for disk in disks:
+                    subprocess.run(["umount", "-l", disk], check=False)
     return 0 if good else 1
 
 

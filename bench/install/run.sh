@@ -2,7 +2,7 @@
 # Whether the programs install, run from where they were installed, and leave no file when they are removed. In folders of its own: the
 # pages are shown, without a word of mandoc and groff, and have the answers that `questions` asks for; tools/install installs below a
 # PREFIX and below a DESTDIR, and removes; tools/package makes the same package twice, which is unpacked, and installed and removed by
-# dpkg in a root folder of its own. From each of the three places runs README.md's session, and one whose commands go as commands.
+# dpkg in a root folder of its own. From each of the three places runs the session of the client's page, and one whose commands go as commands.
 # The completion is typed at a terminal. Ends with 1 where something differs.
 #
 #   bench/install/run.sh [PROGRAMS]     the folder of client, server and surrogate, as `./demo --keep PROGRAMS` makes one of quick
@@ -57,6 +57,7 @@ try_pages() {
         silent "man says nothing of $name" cat "$work/$name.faults"
         holds "man shows $name" grep '^NAME' "$work/$name.shown"
     done
+    for page in "$top"/docs/{ANSWERS,COMMANDS}.md; do tr '\n' ' ' < "$page" > "$work/${page##*/}.text"; done
     while IFS='|' read -r name question answer; do
         case $name in '' | '#'*) continue ;; esac
         count=$((count + 1))
@@ -67,10 +68,13 @@ try_pages() {
     if [ "$missing" -eq 0 ]; then good "$count questions are answered"; else bad "$missing of $count questions"; fi
 }
 
-# Each word that --help lists at the margin of its lists stands on the program's page.
+# Each word that --help lists at the margin of its lists stands on the program's page. It names that page, and fits into a terminal.
 try_words() {
     local name word missing=''
     for name in client server surrogate; do
+        "$1/haurpiko-$name" --help > "$work/help"
+        holds "--help of the $name names its page" grep "man haurpiko-$name\$" "$work/help"
+        silent "--help of the $name has at most 45 lines of 80 bytes" awk 'NR > 45 || length > 80' "$work/help"
         while read -r word; do
             grep -qF -- "$word" "$work/haurpiko-$name.1.text" || missing+=" $name:$word"
         done < <("$1/haurpiko-$name" --help | sed -n 's/^  \([a-zA-Z0-9-]*\).*/\1/p' | grep -v '^$' | sort -u)
@@ -80,8 +84,8 @@ try_words() {
 
 # --- A session ---
 
-# README.md's session: lines, and their answers behind two spaces or more.
-readme_session() { sed -n '/^mkdir trips /,/^```/{/^```/!p}' "$top/README.md"; }
+# The session of haurpiko-client.1's examples: lines, and their answers behind two spaces or more.
+page_session() { sed -n '/^ *mkdir trips /,/^ *quit /{s/^ *//;p}' "$work/haurpiko-client.1.text"; }
 
 # Starts a server and a surrogate from $1 that end behind $2 and $3 connections, in a folder of their own.
 start_nodes() {
@@ -119,8 +123,8 @@ sort_lines() {
 try_session() {
     local bin=$1 folder=$work/session.$2
     mkdir "$folder" && cd "$folder"
-    readme_session | sed -E 's/  +.*//' > lines
-    readme_session | sed -E 's/^[^ ].*[^ ]  +//' > wanted
+    page_session | sed -E 's/  +.*//' > lines
+    page_session | sed -E 's/^[^ ].*[^ ]  +//' > wanted
     : > nothing
     sort_lines > sorting
     printf '%s\n' 'logged 3 status 0' 'synced 3' 'logged 4 status 0' 'synced 4' 4 'f numbers' 'f sorted' 'd trips' > sorted.wanted
@@ -139,7 +143,9 @@ try_session() {
     echo "server: listens at 127.0.0.1:$server_port" > listens.wanted
     same "where the server listens" listens.wanted server.said
     echo "surrogate: listens at 127.0.0.1:$surrogate_port" > listens.wanted
-    same "where the surrogate listens" listens.wanted surrogate.said
+    # behind that it says how far programs are kept apart, which is the machine's
+    head -n 1 surrogate.said > surrogate.first
+    same "where the surrogate listens" listens.wanted surrogate.first
     holds "nothing is left of the runs" is_empty work
     try_folders "$bin"
     cd "$work"
@@ -155,6 +161,21 @@ try_first_session() {
     for entry in 2 3; do echo "client: entry $entry: went as its command, B bytes for 588,895"; done > wanted.told
     start_nodes "$1" 65536 65536
     run_client "$1" lines wanted wanted.told
+    kill "$server" "$surrogate"
+    cd "$work"
+}
+
+# README.md's session: lines behind `> `, their answers, and what standard error tells of the entry with a command.
+try_readme_session() {
+    mkdir "$work/readme" && cd "$work/readme"
+    sed -n '/^\$ programs\/client run /,/^```/{/^\$/d; /^```/d; p}' "$top/README.md" > session
+    sed -n 's/^> //p' session > lines
+    grep -v -e '^> ' -e '^client: ' session > wanted
+    grep '^client: ' session > readme.told
+    sed -E 's/[0-9,]+ bytes for/B bytes for/' readme.told > wanted.told
+    start_nodes "$1" 65536 65536
+    run_client "$1" lines wanted wanted.told
+    same "the bytes that README tells" readme.told told
     kill "$server" "$surrogate"
     cd "$work"
 }
@@ -193,6 +214,7 @@ try_install() {
     try_words "$work/prefix/bin"
     try_session "$work/prefix/bin" prefix
     try_first_session "$work/prefix/bin"
+    try_readme_session "$work/prefix/bin"
     "$top/tools/install" "${from[@]}" "$work/prefix" > "$work/said"
     mkdir -p "$work/dest/opt/other"
     "$top/tools/install" --remove "$work/prefix" > "$work/said"

@@ -1,5 +1,6 @@
 """Kills the client, the server or both at random moments, and compares what goes on with a model. kill.sh says how it is run."""
 
+import contextlib
 import os
 import random
 import shutil
@@ -185,6 +186,7 @@ class Pair:
         it.stderr.close()
         expect(it.wait(60) in (status, 0), f"status {it.returncode}: {said.decode(errors='replace')}")
         started.remove(it)
+        return said.decode(errors="replace")
 
     def kill_server(self):
         expect(self.server.poll() is None, f"the server ended with {self.server.returncode}")
@@ -276,17 +278,35 @@ def acknowledged_by(answers, lines, expected, before, was_killed):
     return acked
 
 
+def resumed(pair, seen):
+    """A client that goes on from what is kept, and its first two answers. What a killed client had just forked has its lock until it is
+    another program: then it is started once more."""
+    for _ in range(100):
+        client = pair.start_client()
+        replies = Answers(client)
+        with contextlib.suppress(BrokenPipeError):
+            send(client, ["status", "sync"])
+        first = replies.read(2)
+        if first:
+            expect(len(first) == 2, f"only {first} was answered")
+            return client, replies, first
+        replies.rest()
+        with contextlib.suppress(BrokenPipeError):
+            client.stdin.close()
+        said = pair.end(client, 5)
+        expect("is held by another program" in said, f"nothing was answered: {said}")
+        seen["held"] += 1
+        time.sleep(0.01)
+    raise Wrong("the lock stays held")
+
+
 def go_on(pair, model, lines, expected, answers, seen):
     """Starts a client on what is kept, syncs, and takes up the lines that are left. The client was stopped, if not at its end, in the
     line behind the answered ones."""
     done = min(len(answers), len(lines))
     low = expected[done - 1][1] if done else seen["before"]
     high = expected[done][1] if done < len(lines) else low
-    client = pair.start_client()
-    replies = Answers(client)
-    send(client, ["status", "sync"])
-    first = replies.read(2)
-    expect(len(first) == 2, f"only {first} was answered")
+    client, replies, first = resumed(pair, seen)
     acked, pending = numbers(first[0], "acknowledged pending")
     total = acked + pending
     expect(low <= total <= high, f"{low} to {high} entries were logged, {first[0]}")
@@ -349,7 +369,7 @@ def session(pair, model, who, seen):
 def main(client, server, moments, seed):
     random.seed(seed)
     programs = os.path.abspath(client), os.path.abspath(server)
-    seen = {"a line": 0.002, "kept unanswered": 0, "unanswered": 0, "at hand": 0, "at its end": 0}
+    seen = {"a line": 0.002, "kept unanswered": 0, "unanswered": 0, "at hand": 0, "at its end": 0, "held": 0}
     killed = dict.fromkeys(WHO, 0)
     room, pair, model = tempfile.mkdtemp(), None, None
     began = time.monotonic()
@@ -358,7 +378,7 @@ def main(client, server, moments, seed):
             if number % SESSIONS == 0:
                 if pair:
                     pair.end_all()
-                    shutil.rmtree(pair.folder)
+                    shutil.rmtree(pair.folder, ignore_errors=True)
                 pair, model = Pair(*programs, tempfile.mkdtemp(dir=room)), Model()
                 pair.pull()
             who = WHO[number % 3]
@@ -371,10 +391,12 @@ def main(client, server, moments, seed):
         for it in started:
             it.kill()
             it.wait()
-        shutil.rmtree(room)
+        # a removal beside may go on
+        shutil.rmtree(room, ignore_errors=True)
     print(f"{moments} moments of seed {seed} in {time.monotonic() - began:.0f} s: killed " + ", ".join(f"{it} {killed[it]}" for it in WHO))
     print(f"  the line at hand was kept without its answer {seen['kept unanswered']} times; an image was being written {seen['at hand']} times")
-    print(f"  syncs unanswered beside a killed server: {seen['unanswered']}; clients that had ended before: {seen['at its end']}")
+    print(f"  syncs unanswered beside a killed server: {seen['unanswered']}; clients that had ended before: {seen['at its end']}; "
+          f"starts while a lock was held still: {seen['held']}")
     print("  nothing that was answered is lost, nothing is applied twice, both programs went on from their images")
 
 

@@ -8,9 +8,9 @@ set -eu
 . "$(dirname "$0")/../common.sh"
 wants awk mawk
 make_work
-bench names_bench
+bench b_times
 for _ in 1 2 3; do
-    measured names_bench measure
+    measured b_times names
 done > "$work/times"
 awk '
     $1 != $2 || $1 != $5 { print "a file was not renamed or not made"; bad = 1; exit 1 }

@@ -9,11 +9,11 @@ set -eu
 wants awk mawk
 make_work_in /dev/shm
 head -c 8388608 /dev/urandom > "$work/content"
-bench repair_bench
+bench b_times
 peer=''
 if has par2 par2; then peer=par2; fi
 for _ in 1 2 3 4 5; do
-    measured repair_bench measure "$work/content" 0 0 | awk '{ print "ours", $1 }'
+    measured b_times repair "$work/content" 0 0 | awk '{ print "ours", $1 }'
     if [ -n "$peer" ]; then
         rm -f "$work"/*.par2
         begin=$(date +%s%N)

@@ -1,5 +1,5 @@
 /* A plain decoder of the same code, to compare with: tables of logarithms, 32 sums, the Berlekamp-Massey algorithm, a search of
-   all places for roots, and Forney's formula. It changes the same symbols as repair_bench. With the word `peak` it runs a command
+   all places for roots, and Forney's formula. It changes the same symbols as b_times. With the word `peak` it runs a command
    and prints the most memory that it held, in KiB. */
 #include <stdint.h>
 #include <stdio.h>

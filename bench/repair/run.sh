@@ -11,16 +11,16 @@ wants cc gcc awk mawk
 make_work_in /dev/shm
 head -c 8388608 /dev/urandom > "$work/content"
 cc -O2 -o "$work/decoder" "$here/decoder.c"
-bench repair_bench
+bench b_times
 printf '%-28s %9s %9s %9s %7s %12s %12s\n' case sketch_of repair decoder ratio 'repair KiB' 'decoder KiB'
 while read -r blocks symbols name; do
     for _ in 1 2 3; do
-        echo "ours $(measured repair_bench measure "$work/content" "$blocks" "$symbols" < /dev/null)"
+        echo "ours $(measured b_times repair "$work/content" "$blocks" "$symbols" < /dev/null)"
         echo "theirs $("$work/decoder" "$work/content" "$blocks" "$symbols")"
     done > "$work/times"
     ours=0
     [ -n "${TRY-}" ] ||
-        ours=$("$work/decoder" peak "$top/crates/repair_bench/out/repair_bench" measure "$work/content" "$blocks" "$symbols" | tail -n 1)
+        ours=$("$work/decoder" peak "$top/crates/b_times/out/b_times" repair "$work/content" "$blocks" "$symbols" | tail -n 1)
     theirs=$("$work/decoder" peak "$work/decoder" "$work/content" "$blocks" "$symbols" | tail -n 1)
     awk -v name="$name" -v ours="$ours" -v theirs="$theirs" '
         $2 != "-" && (!sketch || $2 < sketch) { sketch = $2 }

@@ -9,9 +9,9 @@ set -eu
 . "$(dirname "$0")/../common.sh"
 wants awk mawk
 make_work
-bench server_bench
+bench b_times
 for _ in 1 2 3; do
-    measured server_bench measure
+    measured b_times server
 done > "$work/times"
 awk '
     $5 != $4 || $8 != $7 { print "a store was not accepted"; bad = 1; exit 1 }

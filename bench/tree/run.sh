@@ -8,9 +8,9 @@ set -eu
 . "$(dirname "$0")/../common.sh"
 wants awk mawk
 make_work
-bench tree_bench
+bench b_times
 for _ in 1 2 3; do
-    measured tree_bench measure
+    measured b_times tree
 done > "$work/times"
 awk '
     $3 != 200000 || $5 != 20000 || $7 != 200000 { print "a path was not found or a put was refused"; bad = 1; exit 1 }

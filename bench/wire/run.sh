@@ -8,9 +8,9 @@ set -eu
 . "$(dirname "$0")/../common.sh"
 wants awk mawk
 make_work
-bench server_bench
+bench b_times
 for _ in 1 2 3 4 5; do
-    measured server_bench frames
+    measured b_times frames
 done > "$work/times"
 awk '
     $4 != $2 * $3 { print "a frame was not written as long as it was read"; exit 1 }

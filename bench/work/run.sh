@@ -9,8 +9,9 @@
 #   OUT=..     where these go (bench/work/out); OUT=docs renews the picture, and the table in docs/MEASUREMENTS.md
 #   CACHE=..   where the sources lie (/tmp/haurpiko-work)
 #
-# Each piece is played up to three times: with client and surrogate as one user; with the surrogate as another user (nobody); and, where
-# docs/COMMANDS.md would write the command in another way, so written and as another user. Client and surrogate are given one WORK. As
+# Each piece is played up to five times. Three times its program is not kept apart: with client and surrogate as one user; with the
+# surrogate as another user (nobody); and, where docs/COMMANDS.md would write the command in another way, so written and as another user.
+# Then, as docs/COMMANDS.md writes it, the surrogate keeps it apart as far as the machine lets it: as this user, and as nobody. Client and surrogate are given one WORK. As
 # root, where unshare can be had, the surrogate stands in namespaces of its own: under another host name, with another folder at the
 # path WORK, and without the sources. Else both are on one machine, as one user, and there is no column of two users.
 #

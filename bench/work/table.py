@@ -1,11 +1,13 @@
-"""The table: as a file of values between tabs, and as a table of Markdown."""
+"""The table: whole as a file of values between tabs, and what differed as a table of Markdown."""
 import os
 import subprocess
 import sys
 
 FIGURES = ("files", "bytes", "operation", "rsync", "rsync_z", "xz")
-COLUMNS = ("name", *FIGURES, "same", "other", "careful", *(f"careful_{it}" for it in FIGURES), "differed", "script", "careful_script")
+COLUMNS = ("name", *FIGURES, "same", "other", "careful", *(f"careful_{it}" for it in FIGURES), "differed", "script", "careful_script",
+           "apart", "apart_user")
 BEGIN, END = "<!-- real work: by bench/work/run.sh -->\n", "<!-- real work: its end -->\n"
+APART = ("apart", "apart_user")
 DONE = ("done", "repaired", "renamed")
 WANTED = 36
 
@@ -13,7 +15,8 @@ WANTED = 36
 def row_of(piece, ways):
     """The values of a piece's row."""
     same, other, careful = ways["same"], ways.get("other", {}), ways["careful"]
-    declined = next((it for it in (same, other, careful) if it and it["outcome"] == "declined"), None)
+    asked = (same, other, careful, *(ways.get(it, {}) for it in APART))
+    declined = next((it for it in asked if it and it["outcome"] == "declined"), None)
     return {
         "name": piece.name,
         **{it: same.get(it, "") for it in FIGURES},
@@ -21,6 +24,7 @@ def row_of(piece, ways):
         **{f"careful_{it}": careful.get(it, "") for it in FIGURES},
         "differed": why(declined) if declined else "",
         "script": piece.script, "careful_script": careful_text(piece),
+        **{it: ways.get(it, {}).get("outcome", "") for it in APART},
     }
 
 
@@ -46,19 +50,16 @@ def number(value):
 
 
 def markdown(rows, has_other):
-    """The table, and behind it the commands that docs/COMMANDS.md writes in another way."""
+    """The table of the pieces that were not done in every way; the file of values has them all."""
     ways = [("one user", "same"), *([("two users", "other")] if has_other else []), ("as COMMANDS.md", "careful")]
-    heads = ["work", "files", "bytes", "operation", "`rsync -z`", "`xz`", *(head for head, _ in ways), "what differed"]
+    ways += [("apart", "apart"), *([("apart, as nobody", "apart_user")] if has_other else [])]
+    heads = ["work", "bytes", "operation", "`rsync -z`", *(head for head, _ in ways), "what differed"]
     lines = ["| " + " | ".join(heads) + " |", "|---" * len(heads) + "|"]
     for row in rows:
-        cells = [code(row["name"]), *(number(row[it]) for it in ("files", "bytes", "operation", "rsync_z", "xz"))]
-        cells += [*(row[way] for _, way in ways), code(row["differed"])]
-        lines.append("| " + " | ".join(cells) + " |")
-    lines += ["", "| work | as docs/COMMANDS.md writes it | bytes | operation | `rsync -z` |", "|---|---|---|---|---|"]
-    for row in rows:
-        if row["careful_script"]:
-            figures = (number(row[f"careful_{it}"]) for it in ("bytes", "operation", "rsync_z"))
-            lines.append("| " + " | ".join([code(row["name"]), code(row["careful_script"]), *figures]) + " |")
+        if any(row[way] != "done" for _, way in ways):
+            cells = [code(row["name"]), *(number(row[it]) for it in ("bytes", "operation", "rsync_z"))]
+            cells += [*(row[way] for _, way in ways), code(row["differed"])]
+            lines.append("| " + " | ".join(cells) + " |")
     return "\n".join(lines) + "\n"
 
 
@@ -85,7 +86,8 @@ def show(pieces, out, has_other, is_part):
     text = markdown(rows, has_other)
     counts = f"Done of {len(rows)}: {count(rows, 'same')} as one user, "
     counts += f"{count(rows, 'other')} as two, " if has_other else ""
-    counts += f"{count(rows, 'careful')} as docs/COMMANDS.md writes them.\n"
+    counts += f"{count(rows, 'careful')} as docs/COMMANDS.md writes them; of these, apart, {count(rows, 'apart')}"
+    counts += f" and, as nobody, {count(rows, 'apart_user')}.\n" if has_other else ".\n"
     with open(f"{out}/work.tsv", "w") as file:
         file.write("\t".join(COLUMNS) + "\n")
         file.writelines("\t".join(str(row[it]) for it in COLUMNS) + "\n" for row in rows)
@@ -95,7 +97,7 @@ def show(pieces, out, has_other, is_part):
     here = os.path.dirname(os.path.abspath(__file__))
     subprocess.run([sys.executable, "-B", f"{here}/picture.py", f"{out}/work.tsv", f"{out}/work.svg"], check=True)
     print(text + "\n" + counts)
-    hung = [row["name"] for row in rows if any(row[it].startswith("hung") for it in ("same", "other", "careful"))]
+    hung = [row["name"] for row in rows if any(row[it].startswith("hung") for it in ("same", "other", "careful", *APART))]
     for name in hung:
         print(f"missed: {name} has no answer")
     few = not is_part and len(rows) >= 42 and max(count(rows, "same"), count(rows, "careful")) < WANTED

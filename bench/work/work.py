@@ -167,13 +167,14 @@ class Client:
 class Scene:
     """A server, and a surrogate near it, which stands on a machine that is as far from the client's as this one allows."""
 
-    def __init__(self, room, name, is_other):
+    def __init__(self, room, name, is_other, is_apart):
         self.folder, self.programs, self.work = f"{room}/{name}", f"{room}/programs", f"{room}/{name}/work"
         for it in ("", "work", "there", "image", "far-image"):
             os.mkdir(f"{self.folder}/{it}")
             os.chmod(f"{self.folder}/{it}", 0o755)
         self.clients = []
         self.far, environment = self.place(is_other)
+        environment["HAURPIKO_APART"] = "1" if is_apart else "0"
         server, surrogate = free_port(), free_port()
         self.at_server, self.link, self.files_link = f"127.0.0.1:{server}", Link(), Link()
         quiet = {"stdout": subprocess.DEVNULL, "stderr": subprocess.DEVNULL}
@@ -188,7 +189,7 @@ class Scene:
     def place(self, is_other):
         """The words before a program that stands there, and its variables."""
         if not CAN_PART:
-            return [], None
+            return [], dict(os.environ)
         script = ['hostname faraway', f'mount --bind "{self.folder}/there" "{self.work}"', f'mount -t tmpfs none "{CACHE}"']
         as_user = f"setpriv --reuid {NOBODY} --regid {NOBODY} --clear-groups " if is_other else ""
         if is_other:
@@ -220,13 +221,13 @@ def bring_in(scene, piece):
     client.quit()
 
 
-def play(room, piece, name, is_other, is_careful):
+def play(room, piece, name, is_other, is_careful, is_apart):
     """One piece, in a scene of its own. Gives what was seen."""
     scene = None
     try:
-        scene = Scene(room, name, is_other)
+        scene = Scene(room, name, is_other, is_apart)
         bring_in(scene, piece)
-        return make_twice(scene, piece.line(is_careful), has_peers=is_careful or not is_other)
+        return make_twice(scene, piece.line(is_careful), has_peers=not is_apart and (is_careful or not is_other))
     except (Hung, OSError, ValueError, subprocess.SubprocessError) as error:
         return {"outcome": f"hung: {error}", "told": "", "differ": ""}
     finally:
@@ -347,15 +348,22 @@ def stop(*_):
     raise SystemExit(143)
 
 
+def ways_of(piece):
+    """The ways that a piece is played: whether the surrogate is another user, whether the command is written with care, and whether
+    it runs apart."""
+    careful = piece.has_careful()
+    ways = [("same", False, False, False), ("careful", CAN_PART, True, False)] if careful else [("same", False, False, False)]
+    others = [("other", True, False, False), ("apart_user", True, careful, True)] if CAN_PART else []
+    return [*ways, ("apart", False, careful, True), *others]
+
+
 def play_all(room, chosen):
-    """Each piece in its three ways, as many side by side as there are processors."""
+    """Each piece in its ways, as many side by side as there are processors."""
     rows, parts = collections.defaultdict(dict), {}
     with concurrent.futures.ThreadPoolExecutor(os.cpu_count()) as pool:
         for place, piece in enumerate(chosen):
-            for way, is_other, is_careful in (("same", False, False), ("other", True, False), ("careful", CAN_PART, True)):
-                if (way == "other" and not CAN_PART) or (way == "careful" and not piece.has_careful()):
-                    continue
-                parts[pool.submit(play, room, piece, f"{place}-{way}", is_other, is_careful)] = (piece.name, way)
+            for way, *how in ways_of(piece):
+                parts[pool.submit(play, room, piece, f"{place}-{way}", *how)] = (piece.name, way)
         for part in concurrent.futures.as_completed(parts):
             name, way = parts[part]
             seen = part.result()
