@@ -13,6 +13,9 @@ const WORKS: [&str; 2] = [
     "ln -s . work && exec \"$@\"",
 ];
 
+/// Where the WORK of the clients before goes. What the last one put aside may still be removed from it.
+const LEFT: &str = "left";
+
 /// What is typed there.
 const LINES: &[u8] = b"run -- /bin/cat\n";
 
@@ -23,6 +26,7 @@ pub(crate) fn run_in_no_work<R: Processes + Files + Env + AllocGlobal + Net + Cl
     println!(rt; "-- clients in folders that are no WORK")?;
     for script in WORKS {
         forget(rt);
+        let _moved = fs::rename(rt, WORK, LEFT);
         run_by(rt, script)?;
         let _removed = fs::remove_file(rt, WORK);
     }
