@@ -1,0 +1,87 @@
+// Frames that are sealed.
+ghost use Rattle.std.specs.Prelude.{◌≡◌, ◌↔◌, ◌≤◌, ◌<◌, ◌++◌, ℕ, List, length, slice_index, IsTrue, IfOk};
+ghost use Rattle.sealed_frames.specs.Hmac.{hmac};
+ghost use Rattle.sealed_frames.specs.Holding.{HoldsUnder};
+ghost use Rattle.sealed_frames.specs.Sealing.{way_bytes, tag_of, sealed, client_of, IsSealable};
+
+use crate::hmac::Hmac;
+use std::alloc::{AllocError, Global};
+
+/// What stands where a plain frame has its version.
+pub(crate) const MARK: u8 = 0xe5;
+
+/// How many bytes a seal has: the length of all behind it, the mark, and the tag.
+pub(crate) const SEAL: usize = 37;
+
+/// The place of the client's number in a frame.
+const CLIENT_PLACE: usize = 6;
+
+/// The most bytes of a frame with its seal.
+pub(crate) const MAX_FRAME: usize = 67_108_864;
+
+/// Where a frame goes. No tag of one way is one of another.
+#[derive(Clone, Copy)]
+pub enum Way {
+    ToServer,
+    ToSurrogate,
+    /// Back to who asked, by the sealed frame with this tag.
+    Back([u8; 32]),
+}
+
+/// Takes the way of a frame into what its tag is made of.
+fn take_way(hmac: &mut Hmac, way: &Way)
+    ensures { (key message : List ℕ) → HoldsUnder key hmac.old message → HoldsUnder key hmac.new (message ++ way_bytes way.now) }
+{
+    match way {
+        Way::ToServer => hmac.update(&[1]),
+        Way::ToSurrogate => hmac.update(&[2]),
+        Way::Back(asked) => {
+            hmac.update(&[3]);
+            hmac.update(asked);
+        }
+    }
+}
+
+/// The tag of a frame on a way, under a key.
+pub fn tag_of(key: &[u8; 32], way: &Way, frame: &[u8]) -> [u8; 32]
+    ensures { result ≡ tag_of key.now way.now frame.now }
+{
+    let mut hmac = Hmac::new(key);
+    take_way(&mut hmac, way);
+    hmac.update(frame);
+    hmac.finalize()
+}
+
+/// Whether a frame can be sealed: it has a client's number, and room for a seal.
+pub fn is_sealable(frame: &[u8]) -> bool
+    ensures { IsTrue result ↔ IsSealable frame.now }
+{
+    frame.len() > CLIENT_PLACE && frame.len() <= MAX_FRAME - SEAL
+}
+
+/// The number of the client whose frame it is.
+pub(crate) fn client_of(frame: &[u8]) -> u8
+    requires { 6 < length frame.now }
+    ensures { result ≡ client_of frame.now }
+{
+    frame[CLIENT_PLACE]
+}
+
+/// The frame with its seal before it.
+///
+/// # Errors
+///
+/// Want of memory.
+pub fn seal(alloc: Global, key: &[u8; 32], way: &Way, frame: &[u8]) -> Result<Vec<u8>, AllocError>
+    requires { IsSealable frame.now }
+    ensures { IfOk result (λ bytes. bytes.items ≡ sealed key.now way.now frame.now) }
+{
+    let tag = tag_of(key, way, frame);
+    let behind = SEAL - 4 + frame.len();
+    let mut bytes = Vec::with_capacity(alloc, SEAL + frame.len())?;
+    bytes.extend_from_slice(&(behind as u32).to_be_bytes())?;
+    bytes.push(MARK)?;
+    bytes.extend_from_slice(&tag)?;
+    bytes.extend_from_slice(frame)?;
+    Ok(bytes)
+}
