@@ -9,9 +9,10 @@ ghost use Rattle.client_prog.specs.Ending.{is_status, is_exit};
 use crate::reasons::{Failures, end_shown, end_told};
 use crate::run::client_run;
 use crate::untold::UntoldReader;
-use crate::wishing::{end_unwished, prepare_work};
+use crate::wishing::{Wishes, end_unwished, prepare_work};
 use crate::words::{Form, form_of};
-use child_runner::{ApartWish, ChildRunner};
+use child_runner::ChildRunner;
+use client_keys::sealing;
 use cmd_capture::Runner;
 use outside::{Sink, Source};
 use program_words::{Pages, checked_words, end_plainly, given_words, hold_places, page_shown};
@@ -67,6 +68,8 @@ One space stands between words; a word with spaces stands between quotes: 'a b'.
 A surrogate runs a program again, with what it does outside its folder: give -
 as SURROGATE where that does harm. With HAURPIKO_APART=1 in the environment
 programs run apart; HAURPIKO_SHOW=/a:/b names folders that they may read then.
+With HAURPIKO_KEY=FILE each message is sealed by the key in FILE, which the
+server and the surrogate have too; haurpiko-key makes one.
 Refused lines are answers too, and the status is 0. Other statuses have their
 reason on standard error.
 
@@ -156,15 +159,15 @@ fn run_wished<
     ensures known { IsTrue (is_exit (exit_status result)) }
 {
     if form_of(words).is_none() {
-        let none = ApartWish::none(rt.alloc());
-        let ended = run_client(rt, terminals, steered, words, &none, output);
+        let mut none = Wishes::none(rt.alloc());
+        let ended = run_client(rt, terminals, steered, words, &mut none, output);
         drop(none);
         return ended;
     }
-    match ApartWish::read(rt, false) {
-        Ok(wish) => {
-            let ended = run_client(rt, terminals, steered, words, &wish, output);
-            drop(wish);
+    match Wishes::read(rt, words) {
+        Ok(mut wishes) => {
+            let ended = run_client(rt, terminals, steered, words, &mut wishes, output);
+            drop(wishes);
             ended
         }
         Err(refused) => end_unwished(rt, refused),
@@ -181,7 +184,7 @@ fn run_client<
     terminals: Terminals,
     steered: &Cell<bool>,
     words: &[String],
-    wish: &ApartWish,
+    wishes: &mut Wishes,
     output: &mut O,
 ) -> ExitCode
     ensures form { exit_status result ≡ 2 ↔ form_of (map string_bytes words.now) ≡ None }
@@ -195,7 +198,14 @@ fn run_client<
         terminals.is_typed,
         steered,
     );
-    run_over(rt, terminals, words, wish, UntoldReader::new(typed), output)
+    run_over(
+        rt,
+        terminals,
+        words,
+        wishes,
+        UntoldReader::new(typed),
+        output,
+    )
 }
 
 /// The same over what this reader gives.
@@ -207,7 +217,7 @@ fn run_over<
     rt: &R,
     terminals: Terminals,
     words: &[String],
-    wish: &ApartWish,
+    wishes: &mut Wishes,
     reader: I,
     output: &mut O,
 ) -> ExitCode
@@ -217,8 +227,9 @@ fn run_over<
     let mut input = StdSource::new(reader);
     tell_odd_addresses(rt, words);
     let mut runner = ChildRunner::at_client(rt, NAME);
-    prepare_work(rt.alloc(), &mut runner, words, wish);
-    let mut link = Pool::new(rt.alloc(), link_over(rt, terminals));
+    prepare_work(rt.alloc(), &mut runner, words, wishes);
+    let sealed = link_over(rt, terminals).sealed(sealing(&wishes.keys));
+    let mut link = Pool::new(rt.alloc(), sealed);
     let ended = answered(rt, words, &mut input, output, &mut runner, &mut link);
     drop(link);
     drop(runner);

@@ -11,12 +11,15 @@ use crate::reasons::{end_told, tell_missing};
 use crate::run::server_run;
 use crate::words::{Form, RunWords, form_of};
 use crate::wrong_word::tell_wrong_word;
+use client_keys::{Keys, KeysError, is_loopback, sealing};
 use outside::{Keeper, MemPort, Port, Sink};
 use program_words::{
     Pages, Status, checked_words, end_plainly, given_words, hold_places, is_logged, page_shown,
     tell_listening,
 };
 use real_edge::{FileKeeper, LoggedPort, PeerPort, StdSink, TcpPort, Troubled};
+use sealed_frames::Way;
+use sealed_port::SealedPort;
 use std::alloc::Global;
 use std::fs::File;
 use std::io;
@@ -39,8 +42,10 @@ Usage: server run LISTEN IMAGE COUNT
   IMAGE   the file that keeps the server; if there is none, the server is new
   COUNT   how many connections are taken before the server ends, 1 to 65536
 
-Whoever reaches LISTEN can read and write every file. Nothing is encrypted, and
-nobody logs in: listen at 127.0.0.1, and let clients come through a tunnel.
+With HAURPIKO_KEYS=FOLDER in the environment it takes only what is sealed by the
+key FOLDER/NUMBER.key of the client NUMBER; haurpiko-key makes keys. Without,
+whoever reaches LISTEN can write every file: listen at 127.0.0.1 then. Whoever
+sees the link can read every file: nothing is encrypted.
 At COUNT the server ends with status 0; start it again on its IMAGE. At its end
 it writes 'served K faults F': K requests were taken, F calls of the network
 failed. With HAURPIKO_LOG=1 in the environment, standard error has a line for
@@ -109,10 +114,15 @@ fn answer_words<
         return end_told(rt, words, status.code(), None, output.trouble());
     }
     match form_of(words) {
-        Some(Form::Run(run)) => {
-            let bound = TcpPort::bind(rt.alloc(), rt, run.address);
-            serve_bound(rt, words, &run, bound, output)
-        }
+        Some(Form::Run(run)) => match Keys::of_all(rt) {
+            Ok(keys) => {
+                let bound = TcpPort::bind(rt.alloc(), rt, run.address);
+                let ended = serve_bound(rt, words, &run, sealing(&keys), bound, output);
+                drop(keys);
+                ended
+            }
+            Err(refused) => end_unsealed(rt, refused),
+        },
         Some(Form::Root(_) | Form::Prove(_, _)) => read_kept(rt, words, output),
         None => {
             tell_wrong_word(rt, words);
@@ -142,7 +152,22 @@ fn read_kept<R: Eprint + AllocGlobal + Files<File = File>, O: Sink + Troubled>(
     ended
 }
 
-/// Runs the server over the port that was bound at the address of its words. Where none was, it says so, and ends with status 1.
+/// Ends with status 1, and says why there are no keys; or by want of memory.
+fn end_unsealed<R: Eprint>(rt: &R, refused: KeysError) -> ExitCode
+    ensures form { exit_status result ≢ 2 }
+    ensures known { IsTrue (is_exit (exit_status result)) }
+{
+    if let KeysError::Memory = &refused {
+        drop(refused);
+        return end_plainly(rt, NAME, Status::NoMemory);
+    }
+    let _ = eprintln!(rt; "{NAME}: no keys: {refused}");
+    drop(refused);
+    ExitCode::from(Status::CannotListen.code())
+}
+
+/// Runs the server over the port that was bound at the address of its words, for who has one of these keys, where there are some. Where
+/// none was bound, it says so, and ends with status 1.
 fn serve_bound<
     R: Eprint + AllocGlobal + Env + Files<File = File> + Net + Clock,
     O: Sink + Troubled,
@@ -150,6 +175,7 @@ fn serve_bound<
     rt: &R,
     words: &[String],
     run: &RunWords<'_>,
+    keys: Option<&[Option<[u8; 32]>]>,
     bound: io::Result<TcpPort<'_, R>>,
     output: &mut O,
 ) -> ExitCode
@@ -163,9 +189,10 @@ fn serve_bound<
     match bound {
         Ok(port) => {
             tell_listening(rt, NAME, run.address, port.number());
-            let (ended, port) = serve_over(rt, words, run, port, output);
-            port.finish();
-            ended
+            match keys {
+                Some(keys) => serve_sealed(rt, words, run, keys, port, output),
+                None => serve_plain(rt, words, run, port, output),
+            }
         }
         Err(error) => {
             let address = run.address;
@@ -173,6 +200,48 @@ fn serve_bound<
             ExitCode::from(Status::CannotListen.code())
         }
     }
+}
+
+/// Runs the server over this port for who has one of these keys.
+fn serve_sealed<
+    R: Eprint + AllocGlobal + Env + Files<File = File> + Net + Clock,
+    O: Sink + Troubled,
+>(
+    rt: &R,
+    words: &[String],
+    run: &RunWords<'_>,
+    keys: &[Option<[u8; 32]>],
+    port: TcpPort<'_, R>,
+    output: &mut O,
+) -> ExitCode
+    requires said { form_of (map string_bytes words.now) ≡ Some (Run (run_said run.now)) }
+    ensures bound { exit_status result ≢ 1 }
+    ensures form { exit_status result ≢ 2 }
+    ensures known { IsTrue (is_exit (exit_status result)) }
+{
+    let sealed = SealedPort::new(rt.alloc(), keys, Way::ToServer, port);
+    let (ended, sealed) = serve_over(rt, words, run, sealed, output);
+    sealed.into_port().finish();
+    ended
+}
+
+/// Runs the server over this port for whoever reaches it. Where that is not this machine alone, it says so.
+fn serve_plain<
+    R: Eprint + AllocGlobal + Env + Files<File = File> + Net + Clock,
+    O: Sink + Troubled,
+>(rt: &R, words: &[String], run: &RunWords<'_>, port: TcpPort<'_, R>, output: &mut O) -> ExitCode
+    requires said { form_of (map string_bytes words.now) ≡ Some (Run (run_said run.now)) }
+    ensures bound { exit_status result ≢ 1 }
+    ensures form { exit_status result ≢ 2 }
+    ensures known { IsTrue (is_exit (exit_status result)) }
+{
+    let address = run.address;
+    if !is_loopback(address) {
+        let _ = eprintln!(rt; "{NAME}: no keys: clients are taken on trust at {address}");
+    }
+    let (ended, port) = serve_over(rt, words, run, port, output);
+    port.finish();
+    ended
 }
 
 /// Runs the server over this port, which tells its requests where the environment asks for that, and gives the port back.

@@ -8,10 +8,11 @@ ghost use Rattle.surrogate_prog.specs.Words.{Run, form_of, run_said};
 
 use crate::reasons::end_told;
 use crate::run::surrogate_run;
-use crate::wishing::end_unwished;
+use crate::wishing::{Wishes, end_unwished};
 use crate::words::{Form, RunWords, form_of};
 use crate::wrong_word::tell_wrong_word;
-use child_runner::{ApartWish, ChildRunner};
+use child_runner::ChildRunner;
+use client_keys::sealing;
 use cmd_capture::Runner;
 use outside::{Port, Sink};
 use program_words::{
@@ -19,13 +20,15 @@ use program_words::{
     tell_listening,
 };
 use real_edge::{LoggedPort, PeerPort, StdSink, TcpLink, TcpPort, Troubled, tell_addresses};
+use sealed_frames::Way;
+use sealed_port::SealedPort;
 use std::alloc::Global;
 use std::fs::File;
-use std::io;
 use std::net::Net;
 use std::process::{ExitCode, Processes};
 use std::rt::{Env, Files};
 use std::time::{Clock, Duration};
+use std::{io, mem};
 use world_rules::Link;
 
 const HELP: &str = "\
@@ -40,8 +43,11 @@ Usage: surrogate run LISTEN SERVER WORK COUNT
   WORK    the folder in which commands run: the same text as the clients'
   COUNT   how many connections are taken before it ends, 1 to 65536
 
-Whoever reaches LISTEN runs programs with the rights of this program. Listen at
-127.0.0.1, let clients come through a tunnel, and use a user of its own.
+Clients run programs with the rights of this program: use a user of its own.
+With HAURPIKO_KEYS=FOLDER in the environment, clients are those whose messages
+are sealed by the key FOLDER/NUMBER.key; haurpiko-key makes keys. Without, they
+are whoever reaches LISTEN: a literal of 127.0.0.0/8 or [::1], or, with
+HAURPIKO_OPEN=1, any address.
 At its start it says on standard error how far programs run apart. Unless they
 do, they can reach SERVER, and write there under every client's number.
 With HAURPIKO_APART=0 in the environment they do not; HAURPIKO_SHOW=/a:/b names
@@ -119,10 +125,12 @@ fn answer_words<
         return end_told(rt, status.code(), output.trouble());
     }
     match form_of(words) {
-        Some(Form::Run(run)) => match ApartWish::read(rt, true) {
-            Ok(wish) => {
+        Some(Form::Run(run)) => match Wishes::read(rt, run.address) {
+            Ok(mut wishes) => {
                 let bound = TcpPort::bind(rt.alloc(), rt, run.address);
-                serve_bound(rt, words, &run, &wish, bound, output)
+                let ended = serve_bound(rt, words, &run, &mut wishes, bound, output);
+                drop(wishes);
+                ended
             }
             Err(refused) => end_unwished(rt, refused),
         },
@@ -141,7 +149,7 @@ fn serve_bound<
     rt: &R,
     words: &[String],
     run: &RunWords<'_>,
-    wish: &ApartWish,
+    wishes: &mut Wishes,
     bound: io::Result<TcpPort<'_, R>>,
     output: &mut O,
 ) -> ExitCode
@@ -155,9 +163,7 @@ fn serve_bound<
     match bound {
         Ok(port) => {
             tell_listening(rt, NAME, run.address, port.number());
-            let (ended, port) = serve_over(rt, words, run, wish, port, output);
-            port.finish();
-            ended
+            serve_wished(rt, words, run, wishes, port, output)
         }
         Err(error) => {
             let address = run.address;
@@ -167,8 +173,42 @@ fn serve_bound<
     }
 }
 
+/// Runs the surrogate over this port: for who has one of the keys, where there are some.
+fn serve_wished<
+    R: Eprint + AllocGlobal + Env + Files<File = File> + Net + Clock + Processes,
+    O: Sink + Troubled,
+>(
+    rt: &R,
+    words: &[String],
+    run: &RunWords<'_>,
+    wishes: &mut Wishes,
+    port: TcpPort<'_, R>,
+    output: &mut O,
+) -> ExitCode
+    requires said { form_of (map string_bytes words.now) ≡ Some (Run (run_said run.now)) }
+    ensures bound { exit_status result ≢ 1 }
+    ensures form { exit_status result ≢ 2 }
+    ensures known { IsTrue (is_surrogate_exit (exit_status result)) }
+{
+    let hidden = mem::replace(&mut wishes.hidden, Vec::new(rt.alloc()));
+    match sealing(&wishes.keys) {
+        Some(keys) => {
+            let sealed = SealedPort::new(rt.alloc(), keys, Way::ToSurrogate, port);
+            let (ended, sealed) = serve_over(rt, words, run, wishes, hidden, sealed, output);
+            sealed.into_port().finish();
+            ended
+        }
+        None => {
+            let (ended, port) = serve_over(rt, words, run, wishes, hidden, port, output);
+            port.finish();
+            ended
+        }
+    }
+}
+
 /// Runs the surrogate over this port, which tells its requests where the environment asks for that, and gives the port back. What runs
-/// left in the work folder that were cut off is removed first. How far programs are kept apart is told then.
+/// left in the work folder that were cut off is removed first. How far programs are kept apart is told then; the hidden files are empty for
+/// them.
 fn serve_over<
     R: Eprint + AllocGlobal + Env + Files<File = File> + Net + Clock + Processes,
     P: PeerPort + Drop,
@@ -177,7 +217,8 @@ fn serve_over<
     rt: &R,
     words: &[String],
     run: &RunWords<'_>,
-    wish: &ApartWish,
+    wishes: &Wishes,
+    hidden: Vec<String>,
     port: P,
     output: &mut O,
 ) -> (ExitCode, P)
@@ -188,10 +229,10 @@ fn serve_over<
 {
     let mut logged = LoggedPort::new(rt, NAME, port, is_logged(rt));
     tell_addresses(rt, NAME, "SERVER", run.server.as_bytes());
-    let mut link = TcpLink::new(rt.alloc(), rt);
+    let mut link = TcpLink::new(rt.alloc(), rt).sealed(sealing(&wishes.keys));
     let mut runner = ChildRunner::at_surrogate(rt, NAME, Duration::from_secs(COMMAND_SECONDS));
     let _cleared = runner.clear(run.work.as_bytes());
-    runner.keep_apart(run.work.as_bytes(), wish, Vec::new(rt.alloc()));
+    runner.keep_apart(run.work.as_bytes(), &wishes.apart, hidden);
     let ended = served(
         rt,
         rt.alloc(),
