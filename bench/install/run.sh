@@ -2,8 +2,8 @@
 # Whether the programs install, run from where they were installed, and leave no file when they are removed. In folders of its own: the
 # pages are shown, without a word of mandoc and groff, and have the answers that `questions` asks for; tools/install installs below a
 # PREFIX and below a DESTDIR, and removes; tools/package makes the same package twice, which is unpacked, and installed and removed by
-# dpkg in a root folder of its own. From each of the three places runs the session of the client's page, and one whose commands go as commands.
-# The completion is typed at a terminal. Ends with 1 where something differs.
+# dpkg in a root folder of its own. From each of the three places runs the session of the client's page, and one whose commands go as
+# commands; from PREFIX also with a key that haurpiko-key made. The completion is typed at a terminal. Ends with 1 where something differs.
 #
 #   bench/install/run.sh [PROGRAMS]     the folder of client, server and surrogate, as `./demo --keep PROGRAMS` makes one of quick
 #                                       builds; none: the proved ones, crates/NAME/out/NAME
@@ -180,6 +180,19 @@ try_readme_session() {
     cd "$work"
 }
 
+# A key has its form and its rights and replaces nothing, and a session goes on with it that goes on without.
+is_key() { [ "$(stat -c '%a %s' "$1")" = '600 65' ] && grep -qxE '[0-9a-f]{64}' "$1"; }
+try_key() {
+    local folder=$work/keys
+    mkdir -m 700 "$folder"
+    silent "a key is made without a word" "$1/haurpiko-key" "$folder/1.key"
+    silent "it has 64 digits and a line end, and is its owner's alone" is_key "$folder/1.key"
+    cp -p "$folder/1.key" "$work/first.key"
+    if "$1/haurpiko-key" "$folder/1.key" 2> "$work/said"; then bad "a key is made over another one"; else good "a second one is not made"; fi
+    silent "and the first one stays" cmp "$folder/1.key" "$work/first.key"
+    HAURPIKO_KEYS=$folder HAURPIKO_KEY=$folder/1.key try_session "$1" sealed
+}
+
 # A folder goes in and comes out again.
 try_folders() {
     local client=("$1/haurpiko-client" run 2 other.image 127.0.0.1:1 - work)
@@ -203,6 +216,7 @@ try_install() {
     for name in server surrogate; do
         unit=lib/systemd/system/haurpiko-$name.service
         holds "the unit names the $name below PREFIX" grep "^ExecStart=$work/prefix/bin/haurpiko-$name run " "$work/prefix/$unit"
+        holds "and haurpiko-key" grep "^ExecStartPre=.* $work/prefix/bin/haurpiko-key 1.key" "$work/prefix/$unit"
         holds "and without DESTDIR" grep "^ExecStart=/opt/haurpiko/bin/haurpiko-$name run " "$work/dest/opt/haurpiko/$unit"
     done
     if command -v systemd-analyze > /dev/null; then
@@ -213,6 +227,7 @@ try_install() {
     silent "DESTDIR stands in no file" cat "$work/naming"
     try_words "$work/prefix/bin"
     try_session "$work/prefix/bin" prefix
+    try_key "$work/prefix/bin"
     try_first_session "$work/prefix/bin"
     try_readme_session "$work/prefix/bin"
     "$top/tools/install" "${from[@]}" "$work/prefix" > "$work/said"
