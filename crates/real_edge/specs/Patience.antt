@@ -5,7 +5,7 @@ use Rattle.world_rules.specs.declared.asking.Peer.TheVariants.{Server, Surrogate
 use Rattle.real_edge.specs.Addresses.{is_among, with_address, without_address}
 use Rattle.real_edge.specs.declared.missed.Missed.{Missed}
 use Rattle.real_edge.specs.declared.missed.Missed.TheVariants.{NoForm, NoName, NoLookup, NoConnection, Broken, Silent, Closed}
-use Rattle.real_edge.specs.declared.missed.Missed.TheVariants.{OtherNode, OtherVersion, NoReply, Memory}
+use Rattle.real_edge.specs.declared.missed.Missed.TheVariants.{OtherNode, OtherVersion, NoReply, Unsealed, NoKey, Oversize, Memory}
 
 -- for how many seconds the first byte of an answer is waited for
 abbrev pub silence_seconds : ℕ
@@ -39,6 +39,9 @@ is_break (Silent seconds) = false
 is_break OtherNode = false
 is_break OtherVersion = false
 is_break NoReply = false
+is_break Unsealed = false
+is_break NoKey = false
+is_break Oversize = false
 is_break Memory = false
 
 -- how long the address is left alone behind a try that broke there, where the last tries at these broke, and the one before was

@@ -17,6 +17,7 @@ mod missed;
 mod misses;
 mod moment;
 mod names;
+mod outgoing;
 mod pace;
 mod port;
 mod prompting;

@@ -14,6 +14,7 @@ ghost use Rattle.real_edge.specs.Inside.{IsEchoTo};
 use crate::addresses::Addresses;
 use crate::faults::count_fault;
 use crate::missed::{Missed, to_link};
+use crate::outgoing::Outgoing;
 use crate::pace::Paced;
 use crate::telling::{Teller, ToldStream, Untold};
 use paced_talks::{in_buffers, read_frame};
@@ -61,6 +62,8 @@ pub struct TcpLink<'a, N: Net + Clock, T: Teller + Drop = Untold> {
     alloc: Global,
     net: &'a N,
     teller: T,
+    /// By which its frames are sealed, at place N the key of client N; none where they go as they are.
+    keys: Option<&'a [Option<[u8; 32]>]>,
     silent: Addresses,
     refused: Addresses,
     broken: Addresses,
@@ -89,6 +92,7 @@ impl<'a, N: Net + Clock, T: Teller + Drop> TcpLink<'a, N, T> {
             alloc,
             net,
             teller,
+            keys: None,
             silent: Addresses::new(alloc),
             refused: Addresses::new(alloc),
             broken: Addresses::new(alloc),
@@ -96,6 +100,14 @@ impl<'a, N: Net + Clock, T: Teller + Drop> TcpLink<'a, N, T> {
             failed_at: None,
             troubles: 0,
         }
+    }
+
+    /// The link whose frames are sealed by these keys, where there are any: each by the key of its client, which stands at the place of
+    /// the client's number. It takes no answer that is not sealed by the same key, as the answer to that very frame.
+    pub fn sealed(self, keys: Option<&'a [Option<[u8; 32]>]>) -> TcpLink<'a, N, T>
+        ensures { result.troubles ≡ self.troubles }
+    {
+        TcpLink { keys, ..self }
     }
 
     /// Asks once, and gives the frame that comes back where it spells a reply to the request.
@@ -128,9 +140,30 @@ impl<'a, N: Net + Clock, T: Teller + Drop> TcpLink<'a, N, T> {
         ensures silent { (self.new.silent ≡ silent_after to address.now self.old.silent)
             ⊎ (self.new.silent ≡ after_silence to address.now self.old.silent) ⊎ (self.new.silent ≡ self.old.silent) }
     {
-        let pause = pause(&self.refused, &self.broken, self.broken_pause, address);
-        let seconds = patience(&self.silent, to, address) + in_buffers(frame.len());
         self.teller.begin(to, request, frame);
+        let reply = self.asked(to, address, request, frame);
+        tell_end(&mut self.teller, address, &reply);
+        to_link(reply)
+    }
+
+    /// The same, of which only its bytes and waits are told.
+    fn asked(
+        &mut self,
+        to: Peer,
+        address: &[u8],
+        request: Head,
+        frame: &[u8],
+    ) -> Result<Vec<u8>, Missed>
+        ensures reply { IfOk result (λ bytes. IsEchoTo request bytes.items) }
+        ensures troubles { self.new.troubles ≡ self.old.troubles }
+        ensures answered { IfOk result (λ _. self.new.silent ≡ silent_after to address.now self.old.silent) }
+        ensures unbroken { IfOk result (λ _. self.new.broken ≡ without_address address.now self.old.broken) }
+        ensures silent { (self.new.silent ≡ silent_after to address.now self.old.silent)
+            ⊎ (self.new.silent ≡ after_silence to address.now self.old.silent) ⊎ (self.new.silent ≡ self.old.silent) }
+    {
+        let outgoing = Outgoing::of(self.alloc, self.keys, to, frame)?;
+        let pause = pause(&self.refused, &self.broken, self.broken_pause, address);
+        let seconds = patience(&self.silent, to, address) + in_buffers(outgoing.bytes().len());
         let left = left_of(self.net, pause, self.failed_at);
         let_pass(self.net, &mut self.teller, left);
         let came = exchange(
@@ -138,9 +171,10 @@ impl<'a, N: Net + Clock, T: Teller + Drop> TcpLink<'a, N, T> {
             self.net,
             &mut self.teller,
             address,
-            frame,
+            &outgoing,
             seconds,
         );
+        drop(outgoing);
         note_refusal(&mut self.refused, address, &came);
         note_silence(&mut self.silent, to, address, &came);
         let reply = echoed(self.alloc, request, seconds, came);
@@ -149,8 +183,7 @@ impl<'a, N: Net + Clock, T: Teller + Drop> TcpLink<'a, N, T> {
         if reply.is_err() {
             self.failed_at = Instant::now(self.net).ok();
         }
-        tell_end(&mut self.teller, address, &reply);
-        to_link(reply)
+        reply
     }
 }
 
@@ -296,14 +329,18 @@ fn exchange<N: Net + Clock, T: Teller>(
     net: &N,
     teller: &mut T,
     address: &[u8],
-    frame: &[u8],
+    outgoing: &Outgoing<'_>,
     seconds: u64,
 ) -> Result<Option<Vec<u8>>, Missed> {
     let stream = connect(alloc, net, address)?;
-    talk(alloc, net, stream, teller, frame, seconds).map_err(Missed::of_talk)
+    match talk(alloc, net, stream, teller, outgoing.bytes(), seconds) {
+        Ok(Some(bytes)) => Ok(Some(outgoing.opened(bytes)?)),
+        Ok(None) => Ok(None),
+        Err(error) => Err(Missed::of_talk(error)),
+    }
 }
 
-/// The same over this connection.
+/// Sends the bytes over this connection, and gives the frame that comes back, as it stands there.
 fn talk<N: Net + Clock, T: Teller>(
     alloc: Global,
     net: &N,

@@ -6,6 +6,8 @@ ghost use Rattle.outside.specs.Port.{AddsTalks, talks_begun, AnswersLast};
 use crate::moment::{Moment, moment_now};
 use crate::texts::bytes;
 use outside::{MemPort, Port, PortError};
+use sealed_frames::SealError;
+use sealed_port::SealedPort;
 use std::fmt::{self, Display, Formatter};
 use std::net::SocketAddr;
 use std::time::{Clock, Instant};
@@ -15,12 +17,30 @@ use wire_frames::{Head, Kind, head_of};
 pub trait PeerPort: Port {
     /// Whose connection the last take was about, where that is known.
     fn peer(&self) -> Option<SocketAddr>;
+
+    /// Why the last take refused what came whole, where it did.
+    fn refusal(&self) -> Option<SealError>;
 }
 
-/// A port in memory has peers of no address.
+/// A port in memory has peers of no address, and takes whatever comes.
 impl PeerPort for MemPort {
     fn peer(&self) -> Option<SocketAddr> {
         None
+    }
+
+    fn refusal(&self) -> Option<SealError> {
+        None
+    }
+}
+
+/// A sealed port has the peers of the port that it stands over.
+impl<'a, P: PeerPort + Drop> PeerPort for SealedPort<'a, P> {
+    fn peer(&self) -> Option<SocketAddr> {
+        self.port().peer()
+    }
+
+    fn refusal(&self) -> Option<SealError> {
+        self.refusal()
     }
 }
 
@@ -103,8 +123,13 @@ impl<'a, R: Eprint + Clock> PortLog<'a, R> {
         }
     }
 
-    /// Takes note of a frame of this peer, and tells where none could be taken.
-    fn take(&mut self, came: &Result<Option<Vec<u8>>, PortError>, peer: Option<SocketAddr>) {
+    /// Takes note of a frame of this peer, and tells where none could be taken, and why it was refused, where it was.
+    fn take(
+        &mut self,
+        came: &Result<Option<Vec<u8>>, PortError>,
+        peer: Option<SocketAddr>,
+        refusal: Option<SealError>,
+    ) {
         if !self.is_logged {
             return;
         }
@@ -122,9 +147,12 @@ impl<'a, R: Eprint + Clock> PortLog<'a, R> {
             Ok(None) => {}
             Err(PortError::Failed) => {
                 let line = self.line_head(peer);
-                let _ = eprintln!(self.rt;
-                    "{program}: {line}a connection was lost before its request came"
-                );
+                let _ = match refusal {
+                    Some(why) => eprintln!(self.rt; "{program}: {line}refused: {why}"),
+                    None => eprintln!(self.rt;
+                        "{program}: {line}a connection was lost before its request came"
+                    ),
+                };
             }
             Err(PortError::Memory) => {
                 let line = self.line_head(peer);
@@ -186,8 +214,7 @@ impl<'a, R: Eprint + Clock, P: PeerPort + Drop> Port for LoggedPort<'a, R, P> {
 
     fn take(&mut self) -> Result<Option<Vec<u8>>, PortError> {
         let came = self.port.take();
-        let peer = self.port.peer();
-        self.log.take(&came, peer);
+        self.log.take(&came, self.port.peer(), self.port.refusal());
         came
     }
 

@@ -48,6 +48,12 @@ pub enum Missed {
     OtherVersion,
     /// What came is no reply to the request.
     NoReply,
+    /// It is not sealed by the key by which the request was, as the answer to it.
+    Unsealed,
+    /// There is no key to seal the request by.
+    NoKey,
+    /// The request is too long to be sealed.
+    Oversize,
     /// Memory ran out.
     Memory,
 }
@@ -93,6 +99,15 @@ impl Missed {
         }
     }
 
+    /// Why bytes without the seal of an answer are no reply.
+    pub(crate) fn of_unsealed(bytes: &[u8]) -> Missed {
+        if is_cut(bytes) {
+            Missed::Closed(bytes.len())
+        } else {
+            Missed::Unsealed
+        }
+    }
+
     /// Why a message that is no reply to the request came.
     pub(crate) fn of_message(message: &Message) -> Missed {
         match message {
@@ -122,6 +137,9 @@ impl Missed {
             | Missed::OtherNode
             | Missed::OtherVersion
             | Missed::NoReply
+            | Missed::Unsealed
+            | Missed::NoKey
+            | Missed::Oversize
             | Missed::Memory => false,
         }
     }
@@ -193,6 +211,9 @@ impl<'a> Display for ToldMiss<'a> {
             Missed::OtherNode => f.write_str(other_node(self.to)),
             Missed::OtherVersion => f.write_str("it is of another version"),
             Missed::NoReply => f.write_str(no_reply(self.to)),
+            Missed::Unsealed => f.write_str("the answer is not sealed by this client's key"),
+            Missed::NoKey => f.write_str("this client has no key here"),
+            Missed::Oversize => f.write_str("it is too long to be sealed"),
             Missed::Memory => f.write_str("memory ran out"),
         }
     }

@@ -8,6 +8,7 @@ use crate::connections::Connections;
 use crate::faults::count_fault;
 use crate::logged_port::PeerPort;
 use outside::{Port, PortError};
+use sealed_frames::SealError;
 use std::alloc::Global;
 use std::io;
 use std::net::{Net, SocketAddr};
@@ -77,6 +78,10 @@ fn counted<T>(came: io::Result<T>, faults: &mut u64) -> Result<T, PortError>
 impl<'a, N: Net + Clock> PeerPort for TcpPort<'a, N> {
     fn peer(&self) -> Option<SocketAddr> {
         self.connections.peer()
+    }
+
+    fn refusal(&self) -> Option<SealError> {
+        None
     }
 }
 
