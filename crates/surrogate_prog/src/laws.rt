@@ -1,6 +1,6 @@
 // What holds of every run: functions that do nothing, whose contracts are laws.
 ghost use Rattle.surrogate_prog.specs.Laws.{SurrogateFallsAreBounded, SurrogateFramesAreCounted, SilentServersFailedEight};
-ghost use Rattle.surrogate_prog.specs.Laws.{FailedRunsAreTold, ServingsKeepTheirRoute, BrokenServingsKeepTheirRoute, RunsMoveAlone};
+ghost use Rattle.surrogate_prog.specs.Laws.{FailedRunsAreTold, ServingsKeepTheirRoute, BrokenServingsKeepTheirRoute, RunsMoveAlone, TurnsMoveAlone};
 
 /// Law: how many connections a run uses up, and how the frames taken and answered, the faults of the port and the last line
 /// follow from one another.
@@ -27,7 +27,8 @@ pub fn servings_keep_their_route()
 {}
 
 /// Law: where each operation of the world's client that was taken had been sent, the world moves as a surrogate may move it, and
-/// its client sends nothing.
+/// its client sends nothing. Of a client that sends meanwhile the world moves as that client may move it, frame by frame.
 pub fn worlds_move_alone()
-    ensures { RunsMoveAlone }
+    ensures run { RunsMoveAlone }
+    ensures turns { TurnsMoveAlone }
 {}
