@@ -1,5 +1,5 @@
 -- Blocks that are filled up.
-use Rattle.std.proofs.Common.{◌≡◌, ℕ, zero, suc, ◌-◌, List, [], drop, replicate, refl, ap, ◌∙◌, arith}
+use Rattle.std.proofs.Common.{◌≡◌, ℕ, zero, suc, ◌-◌, drop, replicate, ap, ◌∙◌, arith}
 
 same_count : (k l x : ℕ) → k ≡ l → replicate k x ≡ replicate l x
 same_count k l x same = ap (λ (n : ℕ). replicate n x) same

@@ -1,3 +1,4 @@
 pub mod Blocks
 pub mod Tags
 pub mod Parts
+pub mod Apart

@@ -1,5 +1,5 @@
 -- Tags that are compared byte by byte.
-use Rattle.std.proofs.Common.{◌≡◌, ◌↔◌, ℕ, ◌+◌, ◌*◌, ◌<◌, ◌≤◌, List, length, take, get_or, bit_and, bit_or, bit_xor, refl, sym, ap, ◌∙◌, arith, take-take, get_or-take}
+use Rattle.std.proofs.Common.{◌≡◌, ◌↔◌, ℕ, ◌+◌, ◌<◌, List, length, take, get_or, bit_or, bit_xor, sym, ap, ◌∙◌, arith, take-take, get_or-take}
 use Rattle.std.proofs.lemmas.List.{take_more_same}
 use Rattle.std.proofs.lemmas.Nat.{and_le_l, and_le_r}
 use lib.Bits.{or_add_and, xor_add_and, xor_self}

@@ -1,10 +1,10 @@
--- What holds a message under a key.
+-- What holds a text under a key.
 use Rattle.std.specs.Prelude.{ℕ, List, ◌++◌}
 use Rattle.sha2.specs.Hashers.{Holds256}
 use Rattle.sealed_frames.specs.declared.hmac.Hmac.{Hmac}
-use Rattle.sealed_frames.specs.Hmac.{block_key, crossed}
+use Rattle.sealed_frames.specs.Hmac.{inner_pad, outer_pad, key_block, block_xor}
 
--- it holds the message under the key
+-- it was begun with the key and given the text
 abbrev pub HoldsUnder : List ℕ → Hmac → List ℕ → Type 0
-HoldsUnder key hmac message =
-    Holds256 hmac.inner (crossed 0x36 (block_key key) ++ message) × Holds256 hmac.outer (crossed 0x5c (block_key key))
+HoldsUnder key hmac text =
+    Holds256 hmac.inner (block_xor (key_block key) inner_pad ++ text) × Holds256 hmac.outer (block_xor (key_block key) outer_pad)

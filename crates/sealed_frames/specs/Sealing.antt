@@ -5,16 +5,13 @@ use Rattle.std.specs.Int.{w32, to_be_bytes}
 use Rattle.sealed_frames.specs.declared.sealing.Way.{Way}
 use Rattle.sealed_frames.specs.declared.sealing.Way.TheVariants.{ToServer, ToSurrogate, Back}
 use Rattle.sealed_frames.specs.Hmac.{hmac}
-
--- the most bytes of a frame with its seal
-abbrev pub most_bytes : ℕ
-most_bytes = 67108864
+use Rattle.sealed_frames.specs.Limits.{max_sealed, max_frame}
 
 -- what stands where a plain frame has its version
 abbrev pub mark : ℕ
 mark = 0xe5
 
--- the bytes that a way puts before what it carries, where tags are made
+-- the bytes that tell a way, where tags are made; an answer's way is that back to the ask with this tag
 abbrev pub way_bytes : Way → List ℕ
 way_bytes ToServer = 1 ∷ []
 way_bytes ToSurrogate = 2 ∷ []
@@ -28,21 +25,32 @@ tag_of key way frame = hmac key (way_bytes way ++ frame)
 abbrev pub sealed : List ℕ → Way → List ℕ → List ℕ
 sealed key way frame = to_be_bytes w32 (33 + length frame) ++ mark ∷ tag_of key way frame ++ frame
 
--- the number of the client whose frame it is
-abbrev pub client_of : List ℕ → ℕ
-client_of frame = slice_index frame 6
-
--- a frame has a client's number, and room for a seal
+-- a frame can be sealed: it has a client's number, and leaves room for a seal
 abbrev pub IsSealable : List ℕ → Type 0
-IsSealable frame = (6 < length frame) × (length frame + 37 ≤ most_bytes)
+IsSealable frame = (6 < length frame) × (length frame ≤ max_sealed)
 
 -- the key of a client, where there is one; it stands at the place of the client's number
-abbrev pub key_of : List (Option (List ℕ)) → ℕ → Option (List ℕ)
-key_of keys client = unwrap_or (slice_get keys client) None
+abbrev pub key_at : List (Option (List ℕ)) → Option ℕ → Option (List ℕ)
+key_at keys None = None
+key_at keys (Some client) = unwrap_or (slice_get keys client) None
+
+-- the key of the client whose frame it is, where there is one; the client's number is byte 6 of the frame
+abbrev pub key_of : List (Option (List ℕ)) → List ℕ → Option (List ℕ)
+key_of keys frame = key_at keys (slice_get frame 6)
+
+-- the bytes are this frame, sealed on this way by this key
+pub record IsSealedUnder (key : List ℕ) (way : Way) (bytes frame : List ℕ) : Type 0 where
+  pub fits : IsSealable frame
+  pub same : bytes ≡ sealed key way frame
+
+-- the bytes are this frame, sealed on this way by this key, which is that of its client
+pub record IsSealedBy (keys : List (Option (List ℕ))) (way : Way) (bytes key frame : List ℕ) : Type 0 where
+  pub known : key_of keys frame ≡ Some key
+  pub sealed : IsSealedUnder key way bytes frame
 
 -- the bytes have the form of a sealed frame, whatever its tag
 abbrev pub HasSeal : List ℕ → Type 0
-HasSeal bytes = (43 < length bytes) × (length bytes ≤ most_bytes)
+HasSeal bytes = (43 < length bytes) × (length bytes ≤ max_frame)
     × (take 4 bytes ≡ to_be_bytes w32 (length bytes - 4)) × (slice_index bytes 4 ≡ mark)
 
 -- the tag and the frame of bytes that have that form
@@ -51,9 +59,3 @@ tag_in bytes = drop 5 (take 37 bytes)
 
 abbrev pub frame_in : List ℕ → List ℕ
 frame_in bytes = drop 37 bytes
-
--- the bytes are this frame, sealed on this way by this key, which is that of its client
-pub record IsSealedBy (keys : List (Option (List ℕ))) (way : Way) (bytes key frame : List ℕ) : Type 0 where
-  pub known : key_of keys (client_of frame) ≡ Some key
-  pub fits : IsSealable frame
-  pub same : bytes ≡ sealed key way frame

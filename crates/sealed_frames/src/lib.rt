@@ -1,12 +1,16 @@
-//! Frames with a tag, by which who holds a client's key knows its frames from those of strangers.
+//! Frames with a tag, by which who has a client's key tells its frames from those of strangers.
 #![tactic(auto)]
 
 mod hmac;
+mod laws;
 mod opening;
 mod sealing;
 #[cfg(test)]
 mod tests;
 
 pub use hmac::Hmac;
-pub use opening::{Opened, SealError, open_sealed};
-pub use sealing::{Way, is_sealable, seal, tag_of};
+pub use laws::{
+    frames_have_one_text, limits_agree, one_frame_a_seal, opened_frames_were_made, seals_are_opened,
+};
+pub use opening::{Opened, SealError, open_answer, open_sealed};
+pub use sealing::{MAX_SEALED, SEAL_BYTES, Way, is_sealable, key_of, seal, tag_of};

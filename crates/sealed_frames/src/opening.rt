@@ -1,9 +1,10 @@
 // Sealed frames that are opened.
-ghost use Rattle.std.specs.Prelude.{◌≡◌, ◌↔◌, ◌≤◌, ◌<◌, ◌-◌, ℕ, List, length, take, drop, slice_index, None, Some, Err};
+ghost use Rattle.std.specs.Prelude.{◌≡◌, ◌≢◌, ◌↔◌, ◌≤◌, ◌<◌, ℕ, List, length, None, Some, Err};
 ghost use Rattle.std.specs.Prelude.{IsTrue, IfOk, OnErr};
-ghost use Rattle.sealed_frames.specs.Sealing.{tag_of, sealed, client_of, key_of, HasSeal, IsSealable, IsSealedBy, tag_in, frame_in, mark};
+ghost use Rattle.sealed_frames.specs.declared.sealing.Way.TheVariants.{Back};
+ghost use Rattle.sealed_frames.specs.Sealing.{tag_of, key_of, HasSeal, IsSealedUnder, IsSealedBy, tag_in, frame_in};
 
-use crate::sealing::{MARK, MAX_FRAME, SEAL, Way, client_of, tag_of};
+use crate::sealing::{CLIENT_PLACE, MARK, MAX_SEALED, SEAL_BYTES, Way, key_of, tag_of};
 use thiserror::Error;
 
 /// How many bytes stand before the tag.
@@ -20,10 +21,13 @@ pub struct Opened<'a> {
 /// Why bytes were not opened.
 #[derive(Clone, Copy, Debug, PartialEq, Eq, Error)]
 pub enum SealError {
+    /// The bytes have not the form of a sealed frame.
     #[error("it has no seal")]
     NoSeal,
+    /// The list has no key of the client that the frame names.
     #[error("its client has no key here")]
     NoKey,
+    /// The tag is not that of the frame, on this way, under this key.
     #[error("its tag is of another key, another way or other bytes")]
     OtherTag,
 }
@@ -44,14 +48,13 @@ pub fn open_sealed<'a>(
     ensures tag { IfOk result (λ opened. opened.tag ≡ tag_of opened.key way.now opened.frame.now) }
     ensures refused { OnErr result ((key frame : List ℕ) → IsSealedBy keys.now way.now bytes.now key frame → ⊥) }
     ensures no_seal { (result ≡ Err SealError.NoSeal) ↔ (HasSeal bytes.now → ⊥) }
-    ensures no_key { (result ≡ Err SealError.NoKey) ↔
-        (HasSeal bytes.now × (key_of keys.now (client_of (frame_in bytes.now)) ≡ None)) }
+    ensures no_key { (result ≡ Err SealError.NoKey) ↔ (HasSeal bytes.now × (key_of keys.now (frame_in bytes.now) ≡ None)) }
 {
     if !has_seal(bytes) {
         return Err(SealError::NoSeal);
     }
     let (told, frame) = parts_of(bytes);
-    let Some(key) = key_of(keys, client_of(frame)) else {
+    let Some(key) = key_of(keys, frame) else {
         return Err(SealError::NoKey);
     };
     let tag = tag_of(&key, way, frame);
@@ -61,11 +64,37 @@ pub fn open_sealed<'a>(
     Ok(Opened { key, tag, frame })
 }
 
+/// The frame in the bytes, where these are sealed by this key as the answer to the ask with this tag. The frame may name any client.
+///
+/// # Errors
+///
+/// `NoSeal`, and `OtherTag` for all else.
+#[tactic(auto, using(crate::proofs::Parts::no_answer_form))]
+pub fn open_answer<'a>(
+    key: &[u8; 32],
+    asked: &[u8; 32],
+    bytes: &'a [u8],
+) -> Result<&'a [u8], SealError>
+    ensures frame { IfOk result (λ frame. IsSealedUnder key.now (Back asked.now) bytes.now frame.now) }
+    ensures refused { OnErr result ((frame : List ℕ) → IsSealedUnder key.now (Back asked.now) bytes.now frame → ⊥) }
+    ensures no_seal { (result ≡ Err SealError.NoSeal) ↔ (HasSeal bytes.now → ⊥) }
+    ensures keyed { result ≢ Err SealError.NoKey }
+{
+    if !has_seal(bytes) {
+        return Err(SealError::NoSeal);
+    }
+    let (told, frame) = parts_of(bytes);
+    if !is_same(&tag_of(key, &Way::Back(*asked), frame), told) {
+        return Err(SealError::OtherTag);
+    }
+    Ok(frame)
+}
+
 /// Whether the bytes have the form of a sealed frame.
 fn has_seal(bytes: &[u8]) -> bool
     ensures { IsTrue result ↔ HasSeal bytes.now }
 {
-    if bytes.len() < SEAL + 7 || bytes.len() > MAX_FRAME {
+    if bytes.len() <= SEAL_BYTES + CLIENT_PLACE || bytes.len() > MAX_SEALED + SEAL_BYTES {
         return false;
     }
     let behind = (bytes.len() - 4) as u32;
@@ -79,21 +108,10 @@ fn parts_of(bytes: &[u8]) -> (&[u8], &[u8])
     ensures tag { result.0.now ≡ tag_in bytes.now }
     ensures whole { length result.0.now ≡ 32 }
     ensures frame { result.1.now ≡ frame_in bytes.now }
-    ensures client { 6 < length result.1.now }
 {
-    let (front, frame) = bytes.split_at(SEAL);
+    let (front, frame) = bytes.split_at(SEAL_BYTES);
     let (_head, tag) = front.split_at(HEAD);
     (tag, frame)
-}
-
-/// The key of a client, where there is one.
-fn key_of(keys: &[Option<[u8; 32]>], client: u8) -> Option<[u8; 32]>
-    ensures { result ≡ key_of keys.now client }
-{
-    match keys.get(client as usize) {
-        Some(key) => *key,
-        None => None,
-    }
 }
 
 /// Whether two tags are equal. It looks at all bytes of both, so its time tells nothing of where they differ.

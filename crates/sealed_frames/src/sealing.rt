@@ -1,8 +1,7 @@
 // Frames that are sealed.
 ghost use Rattle.std.specs.Prelude.{◌≡◌, ◌↔◌, ◌≤◌, ◌<◌, ◌++◌, ℕ, List, length, slice_index, IsTrue, IfOk};
-ghost use Rattle.sealed_frames.specs.Hmac.{hmac};
 ghost use Rattle.sealed_frames.specs.Holding.{HoldsUnder};
-ghost use Rattle.sealed_frames.specs.Sealing.{way_bytes, tag_of, sealed, client_of, IsSealable};
+ghost use Rattle.sealed_frames.specs.Sealing.{way_bytes, tag_of, sealed, key_of, IsSealable};
 
 use crate::hmac::Hmac;
 use std::alloc::{AllocError, Global};
@@ -11,13 +10,13 @@ use std::alloc::{AllocError, Global};
 pub(crate) const MARK: u8 = 0xe5;
 
 /// How many bytes a seal has: the length of all behind it, the mark, and the tag.
-pub(crate) const SEAL: usize = 37;
+pub const SEAL_BYTES: usize = 37;
+
+/// The most bytes of a frame that can be sealed: 64 MiB with its seal.
+pub const MAX_SEALED: usize = 67_108_827;
 
 /// The place of the client's number in a frame.
-const CLIENT_PLACE: usize = 6;
-
-/// The most bytes of a frame with its seal.
-pub(crate) const MAX_FRAME: usize = 67_108_864;
+pub(crate) const CLIENT_PLACE: usize = 6;
 
 /// Where a frame goes. No tag of one way is one of another.
 #[derive(Clone, Copy)]
@@ -30,7 +29,7 @@ pub enum Way {
 
 /// Takes the way of a frame into what its tag is made of.
 fn take_way(hmac: &mut Hmac, way: &Way)
-    ensures { (key message : List ℕ) → HoldsUnder key hmac.old message → HoldsUnder key hmac.new (message ++ way_bytes way.now) }
+    ensures { (key text : List ℕ) → HoldsUnder key hmac.old text → HoldsUnder key hmac.new (text ++ way_bytes way.now) }
 {
     match way {
         Way::ToServer => hmac.update(&[1]),
@@ -52,19 +51,19 @@ pub fn tag_of(key: &[u8; 32], way: &Way, frame: &[u8]) -> [u8; 32]
     hmac.finalize()
 }
 
-/// Whether a frame can be sealed: it has a client's number, and room for a seal.
+/// Whether a frame can be sealed: it has a client's number, and leaves room for a seal.
 pub fn is_sealable(frame: &[u8]) -> bool
     ensures { IsTrue result ↔ IsSealable frame.now }
 {
-    frame.len() > CLIENT_PLACE && frame.len() <= MAX_FRAME - SEAL
+    frame.len() > CLIENT_PLACE && frame.len() <= MAX_SEALED
 }
 
-/// The number of the client whose frame it is.
-pub(crate) fn client_of(frame: &[u8]) -> u8
-    requires { 6 < length frame.now }
-    ensures { result ≡ client_of frame.now }
+/// The key of the client whose frame it is, where there is one. At its place N the list has the key of client N.
+pub fn key_of(keys: &[Option<[u8; 32]>], frame: &[u8]) -> Option<[u8; 32]>
+    ensures { result ≡ key_of keys.now frame.now }
 {
-    frame[CLIENT_PLACE]
+    let client = *frame.get(CLIENT_PLACE)?;
+    *keys.get(client as usize)?
 }
 
 /// The frame with its seal before it.
@@ -77,8 +76,8 @@ pub fn seal(alloc: Global, key: &[u8; 32], way: &Way, frame: &[u8]) -> Result<Ve
     ensures { IfOk result (λ bytes. bytes.items ≡ sealed key.now way.now frame.now) }
 {
     let tag = tag_of(key, way, frame);
-    let behind = SEAL - 4 + frame.len();
-    let mut bytes = Vec::with_capacity(alloc, SEAL + frame.len())?;
+    let behind = SEAL_BYTES - 4 + frame.len();
+    let mut bytes = Vec::with_capacity(alloc, SEAL_BYTES + frame.len())?;
     bytes.extend_from_slice(&(behind as u32).to_be_bytes())?;
     bytes.push(MARK)?;
     bytes.extend_from_slice(&tag)?;
