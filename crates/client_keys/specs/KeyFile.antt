@@ -1,5 +1,5 @@
 -- What the file of a key says.
-use Rattle.std.specs.Prelude.{ℕ, List, Option, None, Some, Result, Ok, Err, length, take, slice_index, ◌==◌, ◌&&◌, cond}
+use Rattle.std.specs.Prelude.{ℕ, ◌+◌, List, Option, None, Some, Result, Ok, Err, length, take, slice_index, ◌==◌, ◌&&◌, cond}
 use Rattle.hex.specs.Hex.{decode_sized}
 
 -- how many bytes a key has

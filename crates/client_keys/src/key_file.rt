@@ -17,7 +17,10 @@ pub(crate) const FILE_BYTES: usize = 65;
 pub fn key_in(text: &[u8]) -> Option<[u8; KEY_BYTES]>
     ensures { result ≡ key_in text.now }
 {
-    if text.len() != FILE_BYTES || text[DIGITS] != b'\n' {
+    if text.len() != FILE_BYTES {
+        return None;
+    }
+    if text[DIGITS] != b'\n' {
         return None;
     }
     let mut key = [0; KEY_BYTES];

@@ -20,6 +20,9 @@ const KEYS: &str = "HAURPIKO_KEYS";
 /// The rights of others than its owner. The file of a key gives none of them.
 const OF_OTHERS: u32 = 0o077;
 
+/// How many bytes of a file are read: one more than a key has, so that a longer one is seen.
+const MOST_READ: u64 = FILE_BYTES as u64 + 1;
+
 /// Why a file gives no key.
 #[derive(Debug, Drop, Error)]
 pub enum KeyFault {
@@ -248,7 +251,10 @@ fn no_keys<R: Files>(host: &R, folder: &str) -> KeyFault {
 }
 
 /// The key in the file of this name. What is no file is not opened, so that nothing is waited for.
-fn key_of_file<R: Files<File = File>>(host: &R, name: &str) -> Result<[u8; KEY_BYTES], KeyFault> {
+fn key_of_file<R: Files<File = File> + AllocGlobal>(
+    host: &R,
+    name: &str,
+) -> Result<[u8; KEY_BYTES], KeyFault> {
     let seen = fs::metadata(host, name).map_err(KeyFault::Platform)?;
     if !seen.is_file() {
         return Err(KeyFault::OtherForm);
@@ -256,25 +262,14 @@ fn key_of_file<R: Files<File = File>>(host: &R, name: &str) -> Result<[u8; KEY_B
     if seen.permissions().mode() & OF_OTHERS != 0 {
         return Err(KeyFault::Shared);
     }
-    let mut file = File::open(host, name).map_err(KeyFault::Platform)?;
-    let mut text = [0; FILE_BYTES + 1];
-    let read = read_front(&mut file, &mut text);
-    drop(file);
-    let size = read.map_err(KeyFault::Platform)?;
-    key_in(&text[..size]).ok_or(KeyFault::OtherForm)
-}
-
-/// Reads until the bytes are filled or the file ends, and gives how many it read.
-fn read_front<F: Read>(file: &mut F, bytes: &mut [u8]) -> io::Result<usize>
-    ensures { IfOk result (λ size. size ≤ length bytes.new) }
-{
-    let mut size = 0;
-    while size < bytes.len() {
-        let count = file.read(&mut bytes[size..])?;
-        if count == 0 {
-            break;
-        }
-        size += count;
+    let file = File::open(host, name).map_err(KeyFault::Platform)?;
+    let mut text = Vec::new(host.alloc());
+    let read = file.take(MOST_READ).read_to_end(&mut text);
+    let key = key_in(&text);
+    drop(text);
+    match (read, key) {
+        (Err(error), _) => Err(KeyFault::Platform(error)),
+        (Ok(_), None) => Err(KeyFault::OtherForm),
+        (Ok(_), Some(key)) => Ok(key),
     }
-    Ok(size)
 }
