@@ -1,11 +1,11 @@
 -- What a sealed frame is.
-use Rattle.std.specs.Prelude.{◌≡◌, ℕ, ◌+◌, ◌-◌, ◌≤◌, ◌<◌, List, [], ◌∷◌, ◌++◌, length, take, drop, slice_index, slice_get, unwrap_or}
+use Rattle.std.specs.Prelude.{◌≡◌, ◌≢◌, ℕ, ◌+◌, ◌-◌, ◌≤◌, ◌<◌, List, [], ◌∷◌, ◌++◌, length, take, drop, slice_index, slice_get, unwrap_or}
 use Rattle.std.specs.Prelude.{Option, None, Some}
 use Rattle.std.specs.Int.{w32, to_be_bytes}
 use Rattle.sealed_frames.specs.declared.sealing.Way.{Way}
 use Rattle.sealed_frames.specs.declared.sealing.Way.TheVariants.{ToServer, ToSurrogate, Back}
 use Rattle.sealed_frames.specs.Hmac.{hmac}
-use Rattle.sealed_frames.specs.Limits.{max_sealed, max_frame}
+use Rattle.sealed_frames.specs.Limits.{seal_bytes, max_sealed, max_frame}
 
 -- what stands where a plain frame has its version
 abbrev pub mark : ℕ
@@ -55,7 +55,16 @@ HasSeal bytes = (43 < length bytes) × (length bytes ≤ max_frame)
 
 -- the tag and the frame of bytes that have that form
 abbrev pub tag_in : List ℕ → List ℕ
-tag_in bytes = drop 5 (take 37 bytes)
+tag_in bytes = drop 5 (take seal_bytes bytes)
 
 abbrev pub frame_in : List ℕ → List ℕ
-frame_in bytes = drop 37 bytes
+frame_in bytes = drop seal_bytes bytes
+
+-- the bytes have that form, and their tag is not the one that their frame has on this way, under this key
+pub record HasOtherTag (key : List ℕ) (way : Way) (bytes : List ℕ) : Type 0 where
+  pub form : HasSeal bytes
+  pub other : tag_of key way (frame_in bytes) ≢ tag_in bytes
+
+-- so it is under the key of the client that they name
+abbrev pub HasOtherTagBy : List (Option (List ℕ)) → Way → List ℕ → Type 0
+HasOtherTagBy keys way bytes = (key : List ℕ) × (key_of keys (frame_in bytes) ≡ Some key) × HasOtherTag key way bytes

@@ -2,7 +2,7 @@
 ghost use Rattle.std.specs.Prelude.{◌≡◌, ◌≢◌, ◌↔◌, ◌≤◌, ◌<◌, ℕ, List, length, None, Some, Err};
 ghost use Rattle.std.specs.Prelude.{IsTrue, IfOk, OnErr};
 ghost use Rattle.sealed_frames.specs.declared.sealing.Way.TheVariants.{Back};
-ghost use Rattle.sealed_frames.specs.Sealing.{tag_of, key_of, HasSeal, IsSealedUnder, IsSealedBy, tag_in, frame_in};
+ghost use Rattle.sealed_frames.specs.Sealing.{tag_of, key_of, HasSeal, HasOtherTag, HasOtherTagBy, IsSealedUnder, IsSealedBy, tag_in, frame_in};
 
 use crate::sealing::{CLIENT_PLACE, MARK, MAX_SEALED, SEAL_BYTES, Way, key_of, tag_of};
 use thiserror::Error;
@@ -46,9 +46,11 @@ pub fn open_sealed<'a>(
 ) -> Result<Opened<'a>, SealError>
     ensures frame { IfOk result (λ opened. IsSealedBy keys.now way.now bytes.now opened.key opened.frame.now) }
     ensures tag { IfOk result (λ opened. opened.tag ≡ tag_of opened.key way.now opened.frame.now) }
+    ensures place { IfOk result (λ opened. opened.frame.now ≡ frame_in bytes.now) }
     ensures refused { OnErr result ((key frame : List ℕ) → IsSealedBy keys.now way.now bytes.now key frame → ⊥) }
     ensures no_seal { (result ≡ Err SealError.NoSeal) ↔ (HasSeal bytes.now → ⊥) }
     ensures no_key { (result ≡ Err SealError.NoKey) ↔ (HasSeal bytes.now × (key_of keys.now (frame_in bytes.now) ≡ None)) }
+    ensures other_tag { (result ≡ Err SealError.OtherTag) ↔ HasOtherTagBy keys.now way.now bytes.now }
 {
     if !has_seal(bytes) {
         return Err(SealError::NoSeal);
@@ -78,6 +80,7 @@ pub fn open_answer<'a>(
     ensures frame { IfOk result (λ frame. IsSealedUnder key.now (Back asked.now) bytes.now frame.now) }
     ensures refused { OnErr result ((frame : List ℕ) → IsSealedUnder key.now (Back asked.now) bytes.now frame → ⊥) }
     ensures no_seal { (result ≡ Err SealError.NoSeal) ↔ (HasSeal bytes.now → ⊥) }
+    ensures other_tag { (result ≡ Err SealError.OtherTag) ↔ HasOtherTag key.now (Back asked.now) bytes.now }
     ensures keyed { result ≢ Err SealError.NoKey }
 {
     if !has_seal(bytes) {
