@@ -20,11 +20,12 @@ pub fn key_in(text: &[u8]) -> Option<[u8; KEY_BYTES]>
     if text.len() != FILE_BYTES {
         return None;
     }
-    if text[DIGITS] != b'\n' {
+    let (digits, end) = text.split_at(DIGITS);
+    if end[0] != b'\n' {
         return None;
     }
     let mut key = [0; KEY_BYTES];
-    match decode_to_slice(&text[..DIGITS], &mut key) {
+    match decode_to_slice(digits, &mut key) {
         Ok(()) => Some(key),
         Err(_) => None,
     }
