@@ -110,10 +110,10 @@ class Tap:
 class Scene:
     """A server, and a surrogate where it is wanted, in a folder of their own, with keys or without."""
 
-    def __init__(self, stack, name, clients=0, with_surrogate=False):
+    def __init__(self, stack, name, clients=0, with_surrogate=False, is_logged=True):
         self.folder, self.faults, self.said = pathlib.Path(tempfile.mkdtemp(prefix=f"haurpiko-{name}-")), 0, {}
         stack.callback(shutil.rmtree, self.folder, ignore_errors=True)
-        self.stack, self.keys, self.key = stack, self.folder / "keys" if clients else None, {}
+        self.stack, self.keys, self.key, self.is_logged = stack, self.folder / "keys" if clients else None, {}, is_logged
         if clients:
             self.keys.mkdir(mode=0o700)
         for client in range(1, clients + 1):
@@ -129,7 +129,8 @@ class Scene:
     def start(self, name, words, port):
         """Starts a node, and waits until it listens."""
         self.said[name] = self.folder / f"{name}.said"
-        more = {"HAURPIKO_LOG": "1", "HAURPIKO_APART": "0"} | ({"HAURPIKO_KEYS": str(self.keys)} if self.keys else {})
+        more = {"HAURPIKO_LOG": str(int(self.is_logged)), "HAURPIKO_APART": "0"}
+        more |= {"HAURPIKO_KEYS": str(self.keys)} if self.keys else {}
         with self.said[name].open("w") as said:
             node = subprocess.Popen(words, stdin=subprocess.DEVNULL, stdout=subprocess.DEVNULL, stderr=said, env=plain_words() | more)
         self.stack.callback(node.wait)
@@ -220,7 +221,7 @@ def play_bytes(stack):
 
 def play_time(stack):
     count = int(os.environ.get("SYNCS", "10000"))
-    scenes = {"without keys": Scene(stack, "plain"), "with keys": Scene(stack, "sealed", 1)}
+    scenes = {"without keys": Scene(stack, "plain", is_logged=False), "with keys": Scene(stack, "sealed", 1, is_logged=False)}
     spent, turns = dict.fromkeys(scenes, 0.0), min(TURNS, count)
     for turn in range(turns):
         some = count * (turn + 1) // turns - count * turn // turns
@@ -312,12 +313,14 @@ def those_who_wait(scene, tap):
 
 def repeats_at_the_server(scene, tap):
     before = scene.root()
-    for place, (asked, answer) in enumerate(tap.asks(STORE)):
-        if opened(scene.key[1], asked, answer) is None:
+    for asked, answer in tap.asks(STORE):
+        key, number = scene.key[asked[SEAL + 6]], int.from_bytes(asked[SEAL + 7:SEAL + 15], "big")
+        if opened(key, asked, answer) is None:
             continue
-        again = opened(scene.key[1], asked, ask(scene.port, asked))
+        again = opened(key, asked, ask(scene.port, asked))
         is_same = again is not None and again[5] == ACCEPTED and scene.root() == before
-        scene.want(f"at the server, store {place + 1} repeated: answered, and nothing changes", is_same, again)
+        what = f"at the server, client {asked[SEAL + 6]}'s store {number} repeated: answered, and nothing changes"
+        scene.want(what, is_same, again)
 
 
 def strangers_at_the_surrogate(scene):
@@ -328,7 +331,7 @@ def strangers_at_the_surrogate(scene):
     other = seal(key[1], TO_SURROGATE, frame(OPERATE, 9, 1, b"x"))
     scene.stranger("client 9's operation, which has no key there", "surrogate", other, NO_KEY)
     tap, marks = Tap(scene.near), scene.folder / "marks"
-    script = f"wc -l < a > b; echo >> {marks}"
+    script = f"seq 20000 > b; echo >> {marks}"
     answers, said = scene.session(2, ["pull", f"run in=a env=PATH=/usr/bin:/bin -- /bin/sh -c '{script}'", "sync"], near=tap.port)
     scene.want("client 2's command goes as a command", "went as its command" in said, (answers, said))
     if not tap.asks(OPERATE):

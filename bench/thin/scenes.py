@@ -122,7 +122,9 @@ class Client:
         at_server, at_surrogate = f"{FAR}:7001", f"{FAR}:7002"
         scene.start_far([programs["server"], "run", at_server, f"{scene.folder}/server.image", "65536"], 7001)
         if has_surrogate:
-            scene.start_far([programs["surrogate"], "run", at_surrogate, at_server, f"{scene.folder}/work", "65536"], 7002)
+            # without keys it listens elsewhere than on this machine only where that is said
+            words = ["env", "HAURPIKO_OPEN=1", programs["surrogate"], "run", at_surrogate, at_server, f"{scene.folder}/work", "65536"]
+            scene.start_far(words, 7002)
         words = [programs["client"], "run", "1", f"{scene.folder}/client.image", at_server, at_surrogate if has_surrogate else "-",
                  f"{scene.folder}/work"]
         self.program = scene.start(words, scene.near, stdin=subprocess.PIPE, stdout=subprocess.PIPE)
