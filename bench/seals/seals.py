@@ -17,8 +17,8 @@ import time
 
 HERE = pathlib.Path(__file__).resolve().parent
 sys.path[:0] = [str(HERE.parent / "link"), str(HERE.parent / "fuzz")]
-from proxy import Link  # noqa: E402
-from values import ACCEPTED, DECLINED, DONE, OPERATE, PULL, STORE, frame, u8, u32  # noqa: E402
+from proxy import Link
+from values import ACCEPTED, DECLINED, DONE, OPERATE, PULL, STORE, frame, u8, u32, u64
 
 SERVER, CLIENT, SURROGATE = (os.environ[name] for name in ("SERVER", "CLIENT", "SURROGATE"))
 KEY = HERE.parent.parent / "tools" / "key"
@@ -73,7 +73,7 @@ class Tap:
     """A port in front of another one that notes each ask with its answer, and may give an answer of its own in its place."""
 
     def __init__(self, behind):
-        self.behind, self.talks, self.answers, self.own = behind, [], self.passed, 0
+        self.behind, self.talks, self.answers = behind, [], self.passed
         self.listener = socket.create_server(("127.0.0.1", 0))
         self.port = self.listener.getsockname()[1]
         threading.Thread(target=self.take_all, daemon=True).start()
@@ -270,7 +270,7 @@ def strangers_at_the_server(scene):
 
 def stranger_between(scene, tap):
     """A stranger on the link who answers in the server's place, each of the eight tries by another forgery."""
-    before, old, own = scene.root(), tap.asks(STORE)[0][1], frame(ACCEPTED, 1, 3, (3).to_bytes(8, "big"))
+    before, old, own = scene.root(), tap.asks(STORE)[0][1], frame(ACCEPTED, 1, 3, u64(3))
     forgers = itertools.cycle([
         lambda _: old,  # to an ask with other bytes
         lambda _: own,
