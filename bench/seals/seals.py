@@ -17,8 +17,8 @@ import time
 
 HERE = pathlib.Path(__file__).resolve().parent
 sys.path[:0] = [str(HERE.parent / "link"), str(HERE.parent / "fuzz")]
-from proxy import Link
-from values import ACCEPTED, DECLINED, DONE, OPERATE, PULL, STORE, frame, u8, u32, u64
+from proxy import Link  # noqa: E402
+from values import ACCEPTED, DECLINED, DONE, OPERATE, PULL, STORE, frame, u8, u32, u64  # noqa: E402
 
 SERVER, CLIENT, SURROGATE = (os.environ[name] for name in ("SERVER", "CLIENT", "SURROGATE"))
 KEY = HERE.parent.parent / "tools" / "key"
