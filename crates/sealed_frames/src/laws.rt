@@ -8,14 +8,14 @@ pub fn limits_agree()
     ensures { LimitsAgree }
 {}
 
-/// States that what is sealed by the key of its frame's client is opened as that frame, by that key, and that a sealed answer is
-/// opened by the key of its ask.
+/// States that what `seal` makes of a frame by the key of its client is that frame, sealed by that key, so that `open_sealed` opens it,
+/// and that what it makes of an answer, whatever client this names, is one that `open_answer` opens.
 pub fn seals_are_opened()
     ensures asks { SealedAsksAreOpened }
     ensures answers { SealedAnswersAreOpened }
 {}
 
-/// States that bytes are one frame with its seal, by one key.
+/// States that bytes are one frame with its seal, by one key where this is the client's, so that nothing else is opened.
 pub fn one_frame_a_seal()
     ensures keys { BytesAreOneFrame }
     ensures frames { SealsAreOfOneFrame }

@@ -2,7 +2,8 @@
 ghost use Rattle.std.specs.Prelude.{◌≡◌, ◌≢◌, ◌↔◌, ◌≤◌, ◌<◌, ℕ, List, length, None, Some, Err};
 ghost use Rattle.std.specs.Prelude.{IsTrue, IfOk, OnErr};
 ghost use Rattle.sealed_frames.specs.declared.sealing.Way.TheVariants.{Back};
-ghost use Rattle.sealed_frames.specs.Sealing.{tag_of, key_of, HasSeal, HasOtherTag, HasOtherTagBy, IsSealedUnder, IsSealedBy, tag_in, frame_in};
+ghost use Rattle.sealed_frames.specs.Sealing.{tag_of, key_of, HasSeal, HasOtherTag, HasOtherTagBy, IsSealedUnder, IsSealedBy};
+ghost use Rattle.sealed_frames.specs.Sealing.{tag_in, frame_in};
 
 use crate::sealing::{CLIENT_PLACE, MARK, MAX_SEALED, SEAL_BYTES, Way, key_of, tag_of};
 use thiserror::Error;

@@ -20,7 +20,8 @@ fn tags_are_those_of_the_standard(rt: HostRuntime) -> Result<(), Fail> {
         1, 2, 3, 4, 5, 6, 7, 8, 9, 10, 11, 12, 13, 14, 15, 16, 17, 18, 19, 20, 21, 22, 23, 24, 25,
     ];
     let long =
-        b"This is a test using a larger than block-size key and a larger than block-size data. The key needs to be hashed before being used by the HMAC algorithm.";
+        b"This is a test using a larger than block-size key and a larger than block-size data. \
+          The key needs to be hashed before being used by the HMAC algorithm.";
     let rows: [(&[u8], &[u8], &str); 6] = [
         (
             &[0x0b; 20],
