@@ -1,3 +1,4 @@
 mod Echoing
 mod Limiting
+mod Opening
 mod Pacing

@@ -1,5 +1,6 @@
 pub mod Port
 pub mod Held
 pub mod Inside
+pub mod Outgoing
 pub mod Patience
 pub mod Addresses

@@ -146,7 +146,7 @@ impl<'a, N: Net + Clock, T: Teller + Drop> TcpLink<'a, N, T> {
         to_link(reply)
     }
 
-    /// The same, of which only its bytes and waits are told.
+    /// Asks once, and gives the frame that comes back where it spells a reply to the request; else why there is none.
     fn asked(
         &mut self,
         to: Peer,

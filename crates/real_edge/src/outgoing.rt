@@ -1,4 +1,10 @@
 // Frames as they go to a peer.
+ghost use Rattle.std.specs.Prelude.{◌≡◌, ◌↔◌, ℕ, List, None, Err, IfOk, OnErr};
+ghost use Rattle.std.specs.Option.{option_copied};
+ghost use Rattle.sealed_frames.specs.declared.sealing.Way.TheVariants.{Back};
+ghost use Rattle.sealed_frames.specs.Sealing.{key_of, IsSealable, IsSealedUnder};
+ghost use Rattle.real_edge.specs.Outgoing.{way_to, bytes_of, GoesSealed, GoesOut, LacksKey, LacksRoom, OpensAs};
+
 use crate::missed::Missed;
 use sealed_frames::{SEAL_BYTES, Way, is_sealable, key_of, open_answer, seal, tag_of};
 use std::alloc::Global;
@@ -24,7 +30,11 @@ impl<'f> Outgoing<'f> {
         keys: Option<&[Option<[u8; 32]>]>,
         to: Peer,
         frame: &'f [u8],
-    ) -> Result<Outgoing<'f>, Missed> {
+    ) -> Result<Outgoing<'f>, Missed>
+        ensures goes { IfOk result (GoesOut (option_copied keys.entry) to frame.now) }
+        ensures no_key { (result ≡ Err Missed.NoKey) ↔ LacksKey (option_copied keys.entry) frame.now }
+        ensures oversize { (result ≡ Err Missed.Oversize) ↔ LacksRoom (option_copied keys.entry) frame.now }
+    {
         match keys {
             None => Ok(Outgoing::Plain(frame)),
             Some(keys) => sealed(alloc, keys, to, frame),
@@ -32,7 +42,9 @@ impl<'f> Outgoing<'f> {
     }
 
     /// What goes over the connection.
-    pub(crate) fn bytes(&self) -> &[u8] {
+    pub(crate) fn bytes(&self) -> &[u8]
+        ensures { result.now ≡ bytes_of self.now }
+    {
         match self {
             Outgoing::Plain(frame) => frame,
             Outgoing::Sealed { bytes, .. } => bytes,
@@ -40,7 +52,10 @@ impl<'f> Outgoing<'f> {
     }
 
     /// The frame in what came back: these bytes, or, where a sealed frame went, the one that they are sealed from as the answer to it.
-    pub(crate) fn opened(&self, came: Vec<u8>) -> Result<Vec<u8>, Missed> {
+    pub(crate) fn opened(&self, came: Vec<u8>) -> Result<Vec<u8>, Missed>
+        ensures frame { IfOk result (λ frame. OpensAs self.now came.items frame.items) }
+        ensures refused { OnErr result ((frame : List ℕ) → OpensAs self.now came.items frame → ⊥) }
+    {
         match self {
             Outgoing::Plain(_) => Ok(came),
             Outgoing::Sealed { key, tag, .. } => unsealed(key, tag, came),
@@ -54,7 +69,11 @@ fn sealed<'f>(
     keys: &[Option<[u8; 32]>],
     to: Peer,
     frame: &'f [u8],
-) -> Result<Outgoing<'f>, Missed> {
+) -> Result<Outgoing<'f>, Missed>
+    ensures goes { IfOk result (GoesSealed keys.now to frame.now) }
+    ensures no_key { (result ≡ Err Missed.NoKey) ↔ (key_of keys.now frame.now ≡ None) }
+    ensures oversize { (result ≡ Err Missed.Oversize) ↔ (key_of keys.now frame.now ≡ None → ⊥) × (IsSealable frame.now → ⊥) }
+{
     let Some(key) = key_of(keys, frame) else {
         return Err(Missed::NoKey);
     };
@@ -73,7 +92,9 @@ fn sealed<'f>(
 }
 
 /// The way to a peer.
-fn way_to(to: Peer) -> Way {
+fn way_to(to: Peer) -> Way
+    ensures { result ≡ way_to to }
+{
     match to {
         Peer::Server => Way::ToServer,
         Peer::Surrogate => Way::ToSurrogate,
@@ -81,7 +102,10 @@ fn way_to(to: Peer) -> Way {
 }
 
 /// The frame in the bytes that came back to the sealed frame with this tag. They lose their seal in place.
-fn unsealed(key: &[u8; 32], asked: &[u8; 32], mut came: Vec<u8>) -> Result<Vec<u8>, Missed> {
+fn unsealed(key: &[u8; 32], asked: &[u8; 32], mut came: Vec<u8>) -> Result<Vec<u8>, Missed>
+    ensures frame { IfOk result (λ frame. IsSealedUnder key.now (Back asked.now) came.items frame.items) }
+    ensures refused { OnErr result ((frame : List ℕ) → IsSealedUnder key.now (Back asked.now) came.items frame → ⊥) }
+{
     if open_answer(key, asked, &came).is_err() {
         let missed = Missed::of_unsealed(&came);
         drop(came);
