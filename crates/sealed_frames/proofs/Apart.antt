@@ -4,7 +4,7 @@ use Rattle.std.proofs.lemmas.Option.{same_Some}
 use Rattle.sealed_frames.specs.declared.sealing.Way.{Way}
 use Rattle.sealed_frames.specs.declared.sealing.Way.TheVariants.{ToServer, ToSurrogate, Back}
 use Rattle.sealed_frames.specs.Sealing.{way_bytes, key_of, IsSealedUnder, IsSealedBy}
-use Rattle.sealed_frames.specs.Laws.{IsOnWay}
+use Rattle.sealed_frames.specs.Laws.{HasWholeTag}
 use Rattle.sealed_frames.proofs.Parts.{no_other}
 
 -- bytes that are two sealed frames are one
@@ -20,7 +20,7 @@ same_seal keys way way' bytes key frame key' frame' one other =
     (same_Some key key' (sym one.known ∙ ap (key_of keys) frames ∙ other.known), frames)
 
 -- texts of tags are apart
-pub same_text : (way way' : Way) (frame frame' : List ℕ) → IsOnWay way → IsOnWay way'
+pub same_text : (way way' : Way) (frame frame' : List ℕ) → HasWholeTag way → HasWholeTag way'
     → way_bytes way ++ frame ≡ way_bytes way' ++ frame' → (way ≡ way') × (frame ≡ frame')
 same_text ToServer ToServer frame frame' on on' texts = (refl, cc texts)
 same_text ToServer ToSurrogate frame frame' on on' texts = absurd (cc texts)

@@ -33,15 +33,15 @@ abbrev pub SealsAreOfOneFrame : Type 0
 SealsAreOfOneFrame = (way way' : Way) (bytes key frame key' frame' : List ℕ) → IsSealedUnder key way bytes frame
     → IsSealedUnder key' way' bytes frame' → frame ≡ frame'
 
--- the tag of an ask has 32 bytes
-abbrev pub IsOnWay : Way → Type 0
-IsOnWay (Back asked) = length asked ≡ 32
-IsOnWay _ = Unit {0}
+-- the tag of the ask that a way back names has 32 bytes
+abbrev pub HasWholeTag : Way → Type 0
+HasWholeTag (Back asked) = length asked ≡ 32
+HasWholeTag _ = Unit {0}
 
 -- no text of which a tag is made is that of another way or of another frame
 abbrev pub TextsAreApart : Type 0
-TextsAreApart = (way way' : Way) (frame frame' : List ℕ) → IsOnWay way → IsOnWay way' → way_bytes way ++ frame ≡ way_bytes way' ++ frame'
-    → (way ≡ way') × (frame ≡ frame')
+TextsAreApart = (way way' : Way) (frame frame' : List ℕ) → HasWholeTag way → HasWholeTag way'
+    → way_bytes way ++ frame ≡ way_bytes way' ++ frame' → (way ≡ way') × (frame ≡ frame')
 
 -- under the premise, a frame that is opened was made by who has the key of its client, for this very way
 abbrev pub OpenedFramesWereMade : Type 0
