@@ -1,18 +1,11 @@
 // Programs that are started, and asked.
 use crate::frames::ANSWERS;
-use std::io::{self, ErrorKind, Read, Write};
+use std::io::{self, Write};
 use std::net::Net;
 use std::process::{Child, Processes};
 use std::rt::{Env, Files};
-use std::thread;
-use std::time::{Clock, Duration};
-use tcp_probe::{CLIENT, IMAGE, call_on, command_of, spawned};
-
-/// How often a peer is called until it listens.
-const CALLS: usize = 400;
-
-/// How many milliseconds are waited in between.
-const BETWEEN_MILLIS: u64 = 50;
+use std::time::Clock;
+use tcp_probe::{CLIENT, IMAGE, command_of, first_answer_of, spawned};
 
 /// Starts this very program as another.
 pub(crate) fn start<R: Processes + Files + Env + AllocGlobal>(
@@ -46,27 +39,10 @@ pub(crate) fn ask<R: AllocGlobal + Net + Clock + Print>(
     address: &str,
     frame: &[u8],
 ) -> io::Result<()> {
-    for _ in 0..CALLS {
-        match call_on(rt, address, frame) {
-            Ok(stream) => return print_answer(rt, name, stream),
-            Err(_) => thread::sleep(rt, Duration::from_millis(BETWEEN_MILLIS)),
-        }
-    }
-    Err(io::Error::from(ErrorKind::TimedOut))
-}
-
-fn print_answer<R: AllocGlobal + Print, S: Read + Drop>(
-    rt: &R,
-    name: &str,
-    mut stream: S,
-) -> io::Result<()> {
-    let mut answer = Vec::new(rt.alloc());
-    let taken = stream.read_to_end(&mut answer);
-    drop(stream);
-    match taken {
-        Ok(_count) => print_known(rt, name, &answer),
-        Err(error) => Err(error),
-    }
+    let answer = first_answer_of(rt, address, frame)?;
+    let printed = print_known(rt, name, &answer);
+    drop(answer);
+    printed
 }
 
 /// Prints what an answer is, where it is a known one.

@@ -1,23 +1,28 @@
 //! A client, its surrogate and their server over TCP on this machine. The program starts itself as all three: a command that the
 //! client has run is run again by the surrogate, which has the server take what it made. What standard error is told of that, also
 //! of what cannot be done; a script that a command let be run; an answer that is lost; two surrogates, of which the first refuses; one
-//! folder for both; and what a surrogate left that was killed. Then a client alone, whose surrogate is this very process.
+//! folder for both; and what a surrogate left that was killed. Then a client alone, whose surrogate is this very process; and what keys
+//! keep out.
 #![tactic(auto)]
 
 mod asking;
 mod clearing;
 mod frames;
+mod keyless;
 mod link;
 mod scenes;
+mod seals;
 mod twice;
 
 use asking::{ask, start, start_client};
 use clearing::show_clearing;
 use client_prog::client_main;
 use frames::{OTHER_STATUS, PULL};
+use keyless::show_keyless;
 use link::show_port;
 use program_words::given_words;
 use scenes::{LINES, LIST, LOSS, SCRIPT, show_scene};
+use seals::show_seals;
 use server_prog::server_main;
 use std::fs::{self, File};
 use std::io;
@@ -91,7 +96,9 @@ fn show_all<R: Processes + Files<File = File> + Env + AllocGlobal + Net + Clock 
     show_one_folder(rt)?;
     show_clearing(rt)?;
     forget(rt);
-    show_port(rt)
+    show_port(rt)?;
+    show_seals(rt)?;
+    show_keyless(rt)
 }
 
 /// Starts a server, a surrogate that asks it, and a client of both.

@@ -3,13 +3,13 @@ use crate::asking::{ask, start, start_client};
 use crate::{FAR, INPUT, NEAR, SURROGATE};
 use outside::Port;
 use real_edge::TcpPort;
-use std::io::{self, Read};
+use std::io;
 use std::net::Net;
 use std::process::{Child, Processes};
 use std::rt::{Env, Files};
 use std::time::Clock;
 use tcp_probe::{
-    CLIENT, SERVED, SERVER, address_of, bound, call_on, forget, free_address, print_ended,
+    CLIENT, SERVED, SERVER, address_of, answer_of, bound, forget, free_address, print_ended,
     print_ended_at,
 };
 
@@ -248,19 +248,4 @@ fn carry_twice<R: AllocGlobal + Net + Clock>(
         }
     }
     Ok(())
-}
-
-/// What the surrogate answers to a frame.
-fn answer_of<R: AllocGlobal + Net>(rt: &R, surrogate: &str, frame: &[u8]) -> io::Result<Vec<u8>> {
-    let mut stream = call_on(rt, surrogate, frame)?;
-    let mut answer = Vec::new(rt.alloc());
-    let taken = stream.read_to_end(&mut answer);
-    drop(stream);
-    match taken {
-        Ok(_count) => Ok(answer),
-        Err(error) => {
-            drop(answer);
-            Err(error)
-        }
-    }
 }

@@ -5,6 +5,8 @@ use outside::{MemPort, Port};
 use real_edge::{
     ClientTeller, LineProgram, LoggedPort, Missed, Noting, Prompting, Teller, tell_addresses,
 };
+use sealed_frames::{Way, is_sealable, seal};
+use sealed_port::SealedPort;
 use std::alloc::{AllocError, Global};
 use std::cell::{Cell, RefCell};
 use std::fmt::Display;
@@ -337,6 +339,60 @@ fn a_server_tells_each_request(rt: HostRuntime) -> Result<(), Fail> {
     Ok(())
 }
 
+/// The keys of a server, to which client 3 alone has one.
+const KEYS: [Option<[u8; 32]>; 4] = [None, None, None, Some([7; 32])];
+
+/// The frame, sealed by the key of client 3; without a seal, where it has no room for one.
+fn sealed(alloc: Global, way: &Way, frame: &[u8]) -> Result<Vec<u8>, AllocError> {
+    if is_sealable(frame) {
+        seal(alloc, &[7; 32], way, frame)
+    } else {
+        frame.to_vec(alloc)
+    }
+}
+
+/// A port with a sealed pull, a plain one, what is sealed of a client without a key, and a pull that goes another way.
+fn port_of_strangers(alloc: Global) -> Result<MemPort, AllocError> {
+    let pull = sealed(alloc, &Way::ToServer, PULL)?;
+    let keyless = sealed(alloc, &Way::ToServer, ACCEPTED)?;
+    let astray = sealed(alloc, &Way::ToSurrogate, PULL)?;
+    let port = port_of(alloc, &[&pull, PULL, &keyless, &astray], &[]);
+    drop(pull);
+    drop(keyless);
+    drop(astray);
+    port
+}
+
+/// Whether the next take of the port fails, and this is told.
+fn refuses<P: Port>(port: &mut P, shown: &Shown, line: &str) -> bool {
+    let taken = port.take();
+    let is_refused = taken.is_err();
+    drop(taken);
+    shown.is(line) && is_refused
+}
+
+#[test]
+fn a_server_tells_why_it_refuses_frames(rt: HostRuntime) -> Result<(), Fail> {
+    let shown: Terminal = (Shown::new(rt.alloc()), rt.alloc());
+    let port = port_of_strangers(rt.alloc())?;
+    let port = SealedPort::new(rt.alloc(), &KEYS, Way::ToServer, port);
+    let mut port = LoggedPort::new(&shown, "server", port, true);
+    let pulled =
+        "server: 2026-11-30T21:08:00Z: client 3 pull 17: Accepted, 15 bytes in, 23 out, 1 ms\n";
+    let pulled = answer(&mut port, &shown.0, ACCEPTED, pulled);
+    let refused = [
+        "server: 2026-11-30T21:08:00Z: refused: it has no seal\n",
+        "server: 2026-11-30T21:08:00Z: refused: its client has no key here\n",
+        "server: 2026-11-30T21:08:00Z: refused: its tag is of another key, another way or other bytes\n",
+    ]
+    .iter()
+    .all(|line| refuses(&mut port, &shown.0, line));
+    drop(port.into_port().into_port());
+    drop(shown);
+    assert!(rt; pulled && refused);
+    Ok(())
+}
+
 #[test]
 fn a_port_that_is_not_logged_tells_nothing(rt: HostRuntime) -> Result<(), Fail> {
     let shown: Terminal = (Shown::new(rt.alloc()), rt.alloc());
@@ -399,6 +455,18 @@ fn each_reason_has_its_line(rt: HostRuntime) -> Result<(), Fail> {
         (
             &Missed::OtherVersion,
             "client: near:7001: it is of another version (8 tries)\n",
+        ),
+        (
+            &Missed::Unsealed,
+            "client: near:7001: the answer is not sealed by this client's key (8 tries)\n",
+        ),
+        (
+            &Missed::NoKey,
+            "client: near:7001: this client has no key here (8 tries)\n",
+        ),
+        (
+            &Missed::Oversize,
+            "client: near:7001: it is too long to be sealed (8 tries)\n",
         ),
     ];
     let told = all

@@ -1,13 +1,15 @@
 //! Clients and servers over TCP. First a server in this program: its clients, what strangers are to it, images that two programs
 //! want, and pieces that are appended to one. Then the programs with their words, as they are started: a server at a free address,
-//! at one in use and with a full output, clients on bad streams and under hands, a drill, a log that is set aside, and what a server's
-//! image proves. The program starts itself as the client and as the server.
+//! at one in use and with a full output, clients on bad streams and under hands, a drill, a log that is set aside, what a server's
+//! image proves, and what keys keep out. The program starts itself as the client and as the server.
 #![tactic(auto)]
 
 mod certificates;
 mod clients;
 mod images;
+mod keyless;
 mod reasons;
+mod seals;
 mod servers;
 mod serving;
 mod shelving;
@@ -23,10 +25,12 @@ use images::{
     append_pieces, fill_the_disk, run_on_other_images, serve_unkept, share_a_served_image,
     share_an_image,
 };
+use keyless::{miss_a_seal, refuse_keys, serve_on_trust};
 use outside::MemKeeper;
 use program_words::given_words;
 use real_edge::TcpPort;
 use reasons::{refuse_each_word, show_missing_images, show_reasons};
+use seals::show_seals;
 use server_prog::server_main;
 use servers::{
     serve_at_a_free_address, serve_at_an_address_in_use, serve_on_closed_streams,
@@ -113,7 +117,18 @@ fn show_programs<R: Processes + Files<File = File> + Env + AllocGlobal + Net + C
     type_lines(rt)?;
     run_in_no_work(rt)?;
     show_drill(rt)?;
-    set_a_log_aside(rt)
+    set_a_log_aside(rt)?;
+    show_keys(rt)
+}
+
+/// Shows what keys change, and what is said where there are none.
+fn show_keys<R: Processes + Files + Env + AllocGlobal + Net + Clock + Print>(
+    rt: &R,
+) -> io::Result<()> {
+    show_seals(rt)?;
+    miss_a_seal(rt)?;
+    refuse_keys(rt)?;
+    serve_on_trust(rt)
 }
 
 /// Serves one client that puts a file and ships it.

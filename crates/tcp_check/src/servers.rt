@@ -3,22 +3,15 @@ use crate::clients::{print_length, with_a_full_output};
 use crate::images::run_server_at;
 use real_edge::TcpPort;
 use std::fs::File;
-use std::io::ErrorKind;
+use std::io;
 use std::net::Net;
 use std::process::{Child, Processes};
 use std::rt::{Env, Files};
-use std::time::{Clock, Duration};
-use std::{io, thread};
+use std::time::Clock;
 use tcp_probe::{
-    SERVED, SERVED_LOCK, SERVER, address_of, bound, call_on, call_slowly, command_by, command_of,
-    forget, free_address, print_answer, print_ended_at, run_client, spawned,
+    SERVED, SERVED_LOCK, SERVER, address_of, bound, call_slowly, command_by, command_of, forget,
+    free_address, print_answer, print_ended_at, print_first_answer, run_client, spawned,
 };
-
-/// How often a server is called until it listens.
-const CALLS: usize = 200;
-
-/// How many milliseconds are waited in between.
-const BETWEEN_MILLIS: u64 = 50;
 
 /// A request, which the slow stranger sends in two parts.
 const REQUEST: &[u8] = b"\0\0\0\x0b\x03\x03\x01\0\0\0\0\0\0\0\x01";
@@ -82,13 +75,7 @@ pub(crate) fn call_once_it_listens<R: AllocGlobal + Net + Clock + Print>(
     rt: &R,
     address: &str,
 ) -> io::Result<()> {
-    for _ in 0..CALLS {
-        match call_on(rt, address, b"") {
-            Ok(stream) => return print_answer(rt, "nothing", stream),
-            Err(_) => thread::sleep(rt, Duration::from_millis(BETWEEN_MILLIS)),
-        }
-    }
-    Err(io::Error::from(ErrorKind::TimedOut))
+    print_first_answer(rt, "nothing", address, b"")
 }
 
 /// Runs a server at an address at which this program listens.

@@ -113,7 +113,8 @@ pub(crate) fn mislead_by<R: Processes + Files + Env + AllocGlobal + Net + Clock 
     }
 }
 
-fn answer_by<R: Net + Clock>(port: &mut TcpPort<'_, R>, replies: &[&[u8]; 8]) {
+/// Answers asks at the port, one by each of these.
+pub(crate) fn answer_by<R: Net + Clock>(port: &mut TcpPort<'_, R>, replies: &[&[u8]]) {
     for reply in replies {
         if let Ok(Some(_frame)) = port.take() {
             let _answered = port.answer(reply);

@@ -1,5 +1,5 @@
 // Calls on a server, and its answers.
-use std::io::{Read, Write};
+use std::io::{ErrorKind, Read, Write};
 use std::net::{Net, OpenStream, Shutdown, TcpStream};
 use std::time::{Clock, Duration};
 use std::{io, thread};
@@ -7,6 +7,12 @@ use wire_frames::{FrameError, Message, read};
 
 /// How many seconds a slow peer waits in the middle of its frame's length.
 const PAUSE_SECONDS: u64 = 3;
+
+/// How often a peer is called until it listens.
+const CALLS: usize = 400;
+
+/// How many milliseconds are waited in between.
+const BETWEEN_MILLIS: u64 = 50;
 
 /// Connects, sends the bytes, and ends its writing.
 ///
@@ -57,6 +63,66 @@ fn send_slowly<R: Clock, S: Write + OpenStream>(
     send_all(stream, second)
 }
 
+/// What comes back to these bytes, up to the end.
+///
+/// # Errors
+///
+/// The platform's.
+pub fn answer_of<R: AllocGlobal + Net>(rt: &R, address: &str, bytes: &[u8]) -> io::Result<Vec<u8>> {
+    let stream = call_on(rt, address, bytes)?;
+    answer_in(rt, stream)
+}
+
+/// The same, once the peer listens.
+///
+/// # Errors
+///
+/// `TimedOut` where it does not begin to, and the platform's.
+pub fn first_answer_of<R: AllocGlobal + Net + Clock>(
+    rt: &R,
+    address: &str,
+    bytes: &[u8],
+) -> io::Result<Vec<u8>> {
+    for _ in 0..CALLS {
+        match call_on(rt, address, bytes) {
+            Ok(stream) => return answer_in(rt, stream),
+            Err(_) => thread::sleep(rt, Duration::from_millis(BETWEEN_MILLIS)),
+        }
+    }
+    Err(io::Error::from(ErrorKind::TimedOut))
+}
+
+/// What comes up to the end of the stream.
+fn answer_in<R: AllocGlobal, S: Read + Drop>(rt: &R, mut stream: S) -> io::Result<Vec<u8>> {
+    let mut answer = Vec::new(rt.alloc());
+    let taken = stream.read_to_end(&mut answer);
+    drop(stream);
+    match taken {
+        Ok(_count) => Ok(answer),
+        Err(error) => {
+            drop(answer);
+            Err(error)
+        }
+    }
+}
+
+/// Calls once the peer listens, and prints what it answers.
+///
+/// # Errors
+///
+/// As `first_answer_of`.
+pub fn print_first_answer<R: AllocGlobal + Net + Clock + Print>(
+    rt: &R,
+    name: &str,
+    address: &str,
+    bytes: &[u8],
+) -> io::Result<()> {
+    let answer = first_answer_of(rt, address, bytes)?;
+    let printed = print_frame(rt, name, &answer);
+    drop(answer);
+    printed
+}
+
 /// Prints what the peer was answered.
 ///
 /// # Errors
@@ -65,15 +131,12 @@ fn send_slowly<R: Clock, S: Write + OpenStream>(
 pub fn print_answer<R: AllocGlobal + Print, S: Read + Drop>(
     rt: &R,
     name: &str,
-    mut stream: S,
+    stream: S,
 ) -> io::Result<()> {
-    let mut answer = Vec::new(rt.alloc());
-    let taken = stream.read_to_end(&mut answer);
-    drop(stream);
-    match taken {
-        Ok(_count) => print_frame(rt, name, &answer),
-        Err(error) => Err(error),
-    }
+    let answer = answer_in(rt, stream)?;
+    let printed = print_frame(rt, name, &answer);
+    drop(answer);
+    printed
 }
 
 fn print_frame<R: AllocGlobal + Print>(rt: &R, name: &str, frame: &[u8]) -> io::Result<()> {

@@ -41,6 +41,27 @@ pub fn print_ended_at<R: AllocGlobal + Print, P: OpenProcess + Drop>(
     printed
 }
 
+/// The same behind what was shown beside the program. Where that failed, nobody waits for its end.
+///
+/// # Errors
+///
+/// That of what was shown, and the platform's.
+pub fn print_ended_behind<R: AllocGlobal + Print, P: OpenProcess + Drop>(
+    rt: &R,
+    shown: io::Result<()>,
+    program: &str,
+    address: &str,
+    child: Child<P>,
+) -> io::Result<()> {
+    match shown {
+        Ok(()) => print_ended_at(rt, program, address, child),
+        Err(error) => {
+            drop(child);
+            Err(error)
+        }
+    }
+}
+
 fn print_end<R: Print>(rt: &R, program: &str, address: &str, end: &Output) -> io::Result<()> {
     io::writer(rt).write_all(&end.stdout)?;
     print_told(rt, address, &end.stderr)?;

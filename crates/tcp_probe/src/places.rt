@@ -1,6 +1,8 @@
 // Where servers listen, and where images are kept.
+use crate::sealing::forget_keys;
 use real_edge::TcpPort;
 use std::alloc::Global;
+use std::io::ErrorKind;
 use std::net::Net;
 use std::rt::Files;
 use std::time::Clock;
@@ -49,6 +51,7 @@ pub fn forget<R: Files>(rt: &R) {
         let _removed = fs::remove_file(rt, file);
     }
     let _removed = fs::remove_dir(rt, WORK);
+    forget_keys(rt);
 }
 
 /// A port at an address that was free.
@@ -70,6 +73,18 @@ pub fn free_address<R: AllocGlobal + Net + Clock>(rt: &R) -> io::Result<String> 
     let address = address_of(rt.alloc(), &port);
     drop(port);
     address
+}
+
+/// All addresses of this machine, with the port of this one.
+///
+/// # Errors
+///
+/// `InvalidInput` where it has none, and want of memory.
+pub fn everywhere(alloc: Global, address: &str) -> io::Result<String> {
+    match address.rsplit_once(':') {
+        Some((_host, port)) => Ok(format!(in alloc; "0.0.0.0:{port}")?),
+        None => Err(io::Error::from(ErrorKind::InvalidInput)),
+    }
 }
 
 /// The address of a port.

@@ -2,6 +2,7 @@
 use crate::ending::print_ended;
 use crate::places::{IMAGE, WORK, address_of, free_address};
 use real_edge::{TcpPort, Terminals};
+use std::alloc::AllocError;
 use std::io::Write;
 use std::net::Net;
 use std::path::Path;
@@ -224,6 +225,51 @@ pub fn run_on<R: Processes + Files + Env + AllocGlobal + Print>(
     let command = command_of(rt, program, words)?;
     let mut started = spawned(rt, command)?;
     type_input(&mut started, input);
+    print_ended(rt, program, started)
+}
+
+/// Starts this very program as another with these words and variables, and types this to it.
+///
+/// # Errors
+///
+/// As `command_of`, and the platform's.
+pub fn start_with<R: Processes + Files + Env + AllocGlobal>(
+    rt: &R,
+    program: &str,
+    words: &[&str],
+    variables: &[(&str, &str)],
+    input: &[u8],
+) -> io::Result<Child<R::Started>> {
+    let mut command = command_of(rt, program, words)?;
+    if let Err(refused) = add_variables(&mut command, variables) {
+        drop(command);
+        return Err(io::Error::from(refused));
+    }
+    let mut started = spawned(rt, command)?;
+    type_input(&mut started, input);
+    Ok(started)
+}
+
+fn add_variables(command: &mut Command, variables: &[(&str, &str)]) -> Result<(), AllocError> {
+    for (name, value) in variables {
+        command.env(*name, *value)?;
+    }
+    Ok(())
+}
+
+/// Runs it to its end, and prints that.
+///
+/// # Errors
+///
+/// As `start_with`.
+pub fn run_with<R: Processes + Files + Env + AllocGlobal + Print>(
+    rt: &R,
+    program: &str,
+    words: &[&str],
+    variables: &[(&str, &str)],
+    input: &[u8],
+) -> io::Result<()> {
+    let started = start_with(rt, program, words, variables, input)?;
     print_ended(rt, program, started)
 }
 
