@@ -190,3 +190,11 @@ AcceptedHandlingsAreDone =
     (ask : Ask) (of number upto : ℕ) → Handling server work copy client sketched runs asks reply after → IsIn ask asks
     → ask.answer ≡ Reply (messages.Accepted of number upto)
     → reply ≡ messages.Done client sketched.seq
+
+-- a store that the server refuses ends as declined, with the number of the refusal's kind
+abbrev pub RefusedHandlingsAreDeclined : Type 0
+RefusedHandlingsAreDeclined =
+    (server work : List ℕ) (copy after : Volume) (client : ℕ) (sketched : SketchEntry) (runs : List Run) (asks : List Ask) (reply : Message)
+    (ask : Ask) (refusal : Message) (kind : ℕ) → Handling server work copy client sketched runs asks reply after → IsIn ask asks
+    → ask.answer ≡ Reply refusal → refusal_kind refusal ≡ Some kind
+    → reply ≡ messages.Declined client sketched.seq (Refused kind)

@@ -4,6 +4,7 @@ ghost use Rattle.surrogate_core.specs.Laws.{HandlingsAskTheServer, HandlingsRunO
 ghost use Rattle.surrogate_core.specs.Laws.{BrokenHandlingsAskTheServer, BrokenHandlingsRunOnce};
 ghost use Rattle.surrogate_core.specs.Laws.{HandlingsKeepTheCopy, BrokenHandlingsKeepTheCopy, DeclinesHaveCauses, SilencesAreOfOneRequest};
 ghost use Rattle.surrogate_core.specs.Laws.{UnpreparedTriesAreDeclined, UnrunTriesAreDeclined, JudgedTriesGoOn, AcceptedHandlingsAreDone};
+ghost use Rattle.surrogate_core.specs.Laws.{RefusedHandlingsAreDeclined};
 ghost use Rattle.surrogate_core.specs.Free.{HandlingsMoveAlone, RepliesAreFree};
 
 /// States that a handling asks the server alone, for what its operation may ask, and runs at most the operation's job,
@@ -39,6 +40,11 @@ pub fn tries_have_one_end()
 /// States that an operation is done where the server accepts its store.
 pub fn accepted_stores_are_done()
     ensures { AcceptedHandlingsAreDone }
+{}
+
+/// States that an operation is declined where the server refuses its store, by that refusal.
+pub fn refused_stores_are_declined()
+    ensures { RefusedHandlingsAreDeclined }
 {}
 
 /// States that to the world about a client, whose operation it has seen, a handling is no sending of the client, and that

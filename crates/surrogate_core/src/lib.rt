@@ -10,7 +10,8 @@ mod step;
 
 pub use laws::{
     accepted_stores_are_done, declines_have_causes, handlings_are_no_sendings,
-    handlings_are_of_their_operation, handlings_keep_the_copy, tries_have_one_end,
+    handlings_are_of_their_operation, handlings_keep_the_copy, refused_stores_are_declined,
+    tries_have_one_end,
 };
 pub use machine::Surrogate;
 pub use step::NextStep;
