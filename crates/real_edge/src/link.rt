@@ -105,7 +105,7 @@ impl<'a, N: Net + Clock, T: Teller + Drop> TcpLink<'a, N, T> {
     /// The link whose frames are sealed by these keys, where there are any: each by the key of its client, which stands at the place of
     /// the client's number. It takes no answer that is not sealed by the same key, as the answer to that very frame.
     pub fn sealed(self, keys: Option<&'a [Option<[u8; 32]>]>) -> TcpLink<'a, N, T>
-        ensures { result.troubles ≡ self.troubles }
+        ensures { result.troubles ≡ self.entry.troubles }
     {
         TcpLink { keys, ..self }
     }

@@ -1,8 +1,10 @@
 // Frames as they go to a peer.
-ghost use Rattle.std.specs.Prelude.{◌≡◌, ◌↔◌, ℕ, List, None, Err, IfOk, OnErr};
+ghost use Rattle.std.specs.Prelude.{◌≡◌, ◌↔◌, ◌≤◌, ℕ, List, false, IsTrue, None, Err, IfOk, OnErr};
 ghost use Rattle.std.specs.Option.{option_copied};
+ghost use Rattle.std.specs.Vec.{vec_len};
 ghost use Rattle.sealed_frames.specs.declared.sealing.Way.TheVariants.{Back};
-ghost use Rattle.sealed_frames.specs.Sealing.{key_of, IsSealable, IsSealedUnder};
+ghost use Rattle.sealed_frames.specs.Limits.{seal_bytes};
+ghost use Rattle.sealed_frames.specs.Sealing.{key_of, IsSealable, IsSealedUnder, frame_in};
 ghost use Rattle.real_edge.specs.Outgoing.{way_to, bytes_of, GoesSealed, GoesOut, LacksKey, LacksRoom, OpensAs};
 
 use crate::missed::Missed;
@@ -106,11 +108,27 @@ fn unsealed(key: &[u8; 32], asked: &[u8; 32], mut came: Vec<u8>) -> Result<Vec<u
     ensures frame { IfOk result (λ frame. IsSealedUnder key.now (Back asked.now) came.items frame.items) }
     ensures refused { OnErr result ((frame : List ℕ) → IsSealedUnder key.now (Back asked.now) came.items frame → ⊥) }
 {
-    if open_answer(key, asked, &came).is_err() {
+    if !is_answer(key, asked, &came) {
         let missed = Missed::of_unsealed(&came);
         drop(came);
         return Err(missed);
     }
-    came.drain(..SEAL_BYTES);
+    drop_seal(&mut came);
     Ok(came)
+}
+
+/// Whether the bytes are sealed by this key as the answer to the sealed frame with this tag.
+fn is_answer(key: &[u8; 32], asked: &[u8; 32], bytes: &[u8]) -> bool
+    ensures frame { IsTrue result → IsSealedUnder key.now (Back asked.now) bytes.now (frame_in bytes.now) }
+    ensures none { result ≡ false → (frame : List ℕ) → IsSealedUnder key.now (Back asked.now) bytes.now frame → ⊥ }
+{
+    open_answer(key, asked, bytes).is_ok()
+}
+
+/// Leaves of sealed bytes the frame behind the seal.
+fn drop_seal(bytes: &mut Vec<u8>)
+    requires { seal_bytes ≤ vec_len bytes.old }
+    ensures { bytes.new.items ≡ frame_in bytes.old.items }
+{
+    bytes.drain(..SEAL_BYTES);
 }

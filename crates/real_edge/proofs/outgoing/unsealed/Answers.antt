@@ -1,9 +1,7 @@
-use Rattle.std.proofs.Common.{sym, ◌∙◌}
-use Rattle.sealed_frames.specs.declared.sealing.Way.TheVariants.{Back}
-use Rattle.real_edge.proofs.Opening.{opened_behind}
+use Rattle.std.proofs.Common.{arith}
+use Rattle.real_edge.proofs.Opening.{long_sealed}
 use Rattle.real_edge.proofs.outgoing.unsealed.Goals as goal
 
-pub returns-clause-frame : goal.returns-clause-frame
-returns-clause-frame c =
-    opened_behind c.args.key.now (Back c.args.asked.now) c.deref.result.now c.args.came.items _ c.open_answer.result c.deref.ensures.value
-    c.open_answer.ensures.frame (sym c.is_err.ensures.value ∙ c.if-is_err.false) (c.drop-drain.ensures.items ∙ c.drain.ensures.kept)
+pub drop_seal-requires : goal.drop_seal-requires
+drop_seal-requires c =
+    omega (arith, c.deref.ensures.len, long_sealed c.deref.result.now (c.is_answer.ensures.frame c.if-not-is_answer.false).fits)
