@@ -110,10 +110,11 @@ class Tap:
 class Scene:
     """A server, and a surrogate where it is wanted, in a folder of their own, with keys or without."""
 
-    def __init__(self, stack, name, clients=0, with_surrogate=False, is_logged=True):
+    def __init__(self, stack, name, clients=0, with_surrogate=False, is_logged=True, apart="0"):
         self.folder, self.faults, self.said = pathlib.Path(tempfile.mkdtemp(prefix=f"haurpiko-{name}-")), 0, {}
         stack.callback(shutil.rmtree, self.folder, ignore_errors=True)
         self.stack, self.keys, self.key, self.is_logged = stack, self.folder / "keys" if clients else None, {}, is_logged
+        self.apart = apart
         if clients:
             self.keys.mkdir(mode=0o700)
         for client in range(1, clients + 1):
@@ -129,7 +130,7 @@ class Scene:
     def start(self, name, words, port):
         """Starts a node, and waits until it listens."""
         self.said[name] = self.folder / f"{name}.said"
-        more = {"HAURPIKO_LOG": str(int(self.is_logged)), "HAURPIKO_APART": "0"}
+        more = {"HAURPIKO_LOG": str(int(self.is_logged)), "HAURPIKO_APART": self.apart}
         more |= {"HAURPIKO_KEYS": str(self.keys)} if self.keys else {}
         with self.said[name].open("w") as said:
             node = subprocess.Popen(words, stdin=subprocess.DEVNULL, stdout=subprocess.DEVNULL, stderr=said, env=plain_words() | more)
@@ -143,12 +144,12 @@ class Scene:
             time.sleep(0.02)
         raise SystemExit(f"the {name} does not listen: {self.said[name].read_text()}")
 
-    def session(self, client, lines, port=None, near=None, key=...):
+    def session(self, client, lines, port=None, near=None, key=..., apart="0"):
         """What a client answers to the lines, and what it says beside. It has its key, where there are keys, or this one's file."""
         words = [CLIENT, "run", str(client), self.folder / f"{client}.image", f"127.0.0.1:{port or self.port}"]
         words += [f"127.0.0.1:{near}" if near else "-", self.folder / "own"]
         file = key if key is not ... else self.keys and self.keys / f"{client}.key"
-        more = {"HAURPIKO_KEY": str(file)} if file else {}
+        more = {"HAURPIKO_APART": apart} | ({"HAURPIKO_KEY": str(file)} if file else {})
         ran = subprocess.run(words, input="".join(f"{line}\n" for line in lines), stdout=subprocess.PIPE, stderr=subprocess.PIPE, text=True,
                              env=plain_words() | more, timeout=PATIENCE)
         return ran.stdout.splitlines(), ran.stderr
@@ -400,6 +401,30 @@ def play_starts(stack):
     return scene.faults
 
 
+# --- Hidden keys ---
+
+
+def play_hidden(stack):
+    """What a command reads of the keys: nothing where it runs apart, at the client and at the surrogate."""
+    scene = Scene(stack, "hidden", 1, with_surrogate=True, apart="1")
+    told = scene.said["surrogate"]
+    for _ in range(500):
+        if "programs apart" in told.read_text():
+            break
+        time.sleep(0.02)
+    if "surrogate: runs programs apart: processes, network, files" not in told.read_text():
+        print("this machine keeps programs from no files: left out")
+        return 0
+    key = scene.keys / "1.key"
+    for apart, size, way in (("1", "0", "its command"), ("0", "65", "its files")):
+        line = f"run env=PATH=/usr/bin:/bin -- /bin/sh -c 'cat {key} > seen{apart}; seq 20000 > all{apart}'"
+        answers, said = scene.session(1, [line, f"cat seen{apart}", "sync"], near=scene.near, apart=apart)
+        is_so = answers[1:2] == [size] and ("went as its command" in said) == (way == "its command")
+        where = "apart at the client" if apart == "1" else "with the client's own rights"
+        scene.want(f"a command {where} reads {size} bytes of the key, and goes as {way}", is_so, (answers, said))
+    return scene.faults
+
+
 def words_of(node, place, folder):
     return {
         "client": [CLIENT, "run", "1", f"{folder}/image", place, "-", f"{folder}/work"],
@@ -437,7 +462,7 @@ def goes_on(scene, node, place, more, line):
 
 
 def main(names):
-    parts = {"bytes": play_bytes, "time": play_time, "strangers": play_strangers, "starts": play_starts}
+    parts = {"bytes": play_bytes, "time": play_time, "strangers": play_strangers, "starts": play_starts, "hidden": play_hidden}
     faults = 0
     for name in names or parts:
         print(f"--- {name}", flush=True)
