@@ -10,7 +10,7 @@ use tcp_probe::{CLIENT, SERVER, forget, run_client, run_on};
 /// What a peer says that is another node than a server, as a surrogate does, and one that speaks another version.
 const OTHER_NODE: &[u8] = b"\0\0\0\x10\x03\x1f\0\0\0\0\0\0\0\0\0\x07\0\0\0\0";
 
-const OTHER_VERSION: &[u8] = b"\0\0\0\x10\x03\x1f\0\0\0\0\0\0\0\0\0\x02\0\0\0\0";
+pub(crate) const OTHER_VERSION: &[u8] = b"\0\0\0\x10\x03\x1f\0\0\0\0\0\0\0\0\0\x02\0\0\0\0";
 
 /// Servers of no such name, and of no form.
 const NO_SERVERS: [&str; 4] = ["no..host:7001", "nowhere", ":7001", "127.0.0.1:99999"];

@@ -1,4 +1,6 @@
 // A server with keys: a client that seals what it asks, one who hears it, and strangers, who change nothing.
+use crate::reasons::OTHER_VERSION;
+use crate::shelving::FOLDER;
 use crate::strangers::answer_by;
 use real_edge::TcpPort;
 use sealed_frames::Way;
@@ -59,7 +61,7 @@ const STRANGERS: [(&str, SealedAsk<'static>); 4] = [
     ),
 ];
 
-/// What clients ask by right.
+/// What clients 1 and 2 ask by right.
 const UNKNOWN: SealedAsk<'static> = SealedAsk {
     frame: NO_KIND,
     by: FIRST_KEY,
@@ -76,18 +78,15 @@ const RIGHTLY: SealedAsk<'static> = SealedAsk {
 /// two clients as the last of their asks, by client 2, and by clients 1 and 3.
 const COUNT: &str = "14";
 
-/// What is typed to the client, and what is typed to it and to others then.
-const FIRST: &[u8] = b"put a hello\nsync\n";
+/// What is typed to the client that is heard and to who takes its number, to it while it is misled, and to it behind that.
+const PUT_A: &[u8] = b"put a hello\nsync\n";
 
-const SECOND: &[u8] = b"put c world\nsync\n";
+const PUT_C: &[u8] = b"put c world\nsync\n";
 
-const THIRD: &[u8] = b"sync\nput d more\n";
+const PUT_D: &[u8] = b"sync\nput d more\n";
 
 /// How many tries a client has before the last one.
 const TRIES_BEFORE: usize = 7;
-
-/// What a peer says that speaks another version.
-const OTHER_VERSION: &[u8] = b"\0\0\0\x10\x03\x1f\0\0\0\0\0\0\0\0\0\x02\0\0\0\0";
 
 /// Runs a server with keys, clients and strangers.
 pub(crate) fn show_seals<R: Processes + Files + Env + AllocGlobal + Net + Clock + Print>(
@@ -126,8 +125,8 @@ fn show_session<R: Processes + Files + Env + AllocGlobal + Net + Clock + Print>(
     shown?;
     ask_sealed(rt, "its client", address, &RIGHTLY)?;
     let words = ["run", "1", IMAGE, address, "-", WORK];
-    run_with(rt, CLIENT, &words, &[(KEY, FIRST_KEY.file)], THIRD)?;
-    let words = ["shelve", "1", IMAGE, "3", NEW, address, "s"];
+    run_with(rt, CLIENT, &words, &[(KEY, FIRST_KEY.file)], PUT_D)?;
+    let words = ["shelve", "1", IMAGE, "3", NEW, address, FOLDER];
     run_with(rt, CLIENT, &words, &[(KEY, THIRD_KEY.file)], b"")
 }
 
@@ -157,7 +156,7 @@ fn hear_client<R: Processes + Files + Env + AllocGlobal + Net + Clock + Print>(
     address: &str,
 ) -> io::Result<Heard> {
     let port = bound(rt)?;
-    match start_at(rt, &port, IMAGE, &[(KEY, FIRST_KEY.file)], FIRST) {
+    match start_at(rt, &port, IMAGE, &[(KEY, FIRST_KEY.file)], PUT_A) {
         Ok(client) => Heard::of_client(rt, port, client, address),
         Err(error) => {
             drop(port);
@@ -174,7 +173,7 @@ fn run_apart<R: Processes + Files + Env + AllocGlobal + Net + Clock + Print>(
     variables: &[(&str, &str)],
 ) -> io::Result<()> {
     let mut port = bound(rt)?;
-    match start_at(rt, &port, OTHER, variables, FIRST) {
+    match start_at(rt, &port, OTHER, variables, PUT_A) {
         Ok(client) => {
             answer_by(&mut port, &[OTHER_VERSION; TRIES_BEFORE]);
             let carried = Heard::carry(rt, &mut port, address).map(drop);
@@ -195,7 +194,7 @@ fn mislead_by<R: Processes + Files + Env + AllocGlobal + Net + Clock + Print>(
     heard: &Heard,
 ) -> io::Result<()> {
     let mut port = bound(rt)?;
-    match start_at(rt, &port, IMAGE, &[(KEY, FIRST_KEY.file)], SECOND) {
+    match start_at(rt, &port, IMAGE, &[(KEY, FIRST_KEY.file)], PUT_C) {
         Ok(client) => {
             answer_by(&mut port, &[heard.answer.as_slice(); 8]);
             drop(port);

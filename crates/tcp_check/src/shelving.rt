@@ -22,7 +22,7 @@ const SECOND: &[u8] = b"put a world\nsync\n";
 const THEN: &[u8] = b"cat a\ncat s/1.0\nsync\n";
 
 /// The folder of what was set aside.
-const FOLDER: &str = "s";
+pub(crate) const FOLDER: &str = "s";
 
 /// Works a drill off.
 pub(crate) fn show_drill<R: Processes + Files + Env + AllocGlobal + Print>(
