@@ -114,15 +114,7 @@ fn answer_words<
         return end_told(rt, words, status.code(), None, output.trouble());
     }
     match form_of(words) {
-        Some(Form::Run(run)) => match Keys::of_all(rt) {
-            Ok(keys) => {
-                let bound = TcpPort::bind(rt.alloc(), rt, run.address);
-                let ended = serve_bound(rt, words, &run, sealing(&keys), bound, output);
-                drop(keys);
-                ended
-            }
-            Err(refused) => end_unsealed(rt, refused),
-        },
+        Some(Form::Run(run)) => serve_wished(rt, words, &run, output),
         Some(Form::Root(_) | Form::Prove(_, _)) => read_kept(rt, words, output),
         None => {
             tell_wrong_word(rt, words);
@@ -150,6 +142,27 @@ fn read_kept<R: Eprint + AllocGlobal + Files<File = File>, O: Sink + Troubled>(
     drop(keeper);
     drop(port);
     ended
+}
+
+/// Runs the server on its words for who has one of the keys that the environment names, where it names some. Where it names what is none,
+/// nothing is bound.
+fn serve_wished<
+    R: Eprint + AllocGlobal + Env + Files<File = File> + Net + Clock,
+    O: Sink + Troubled,
+>(rt: &R, words: &[String], run: &RunWords<'_>, output: &mut O) -> ExitCode
+    requires { form_of (map string_bytes words.now) ≡ Some (Run (run_said run.now)) }
+    ensures form { exit_status result ≢ 2 }
+    ensures known { IsTrue (is_exit (exit_status result)) }
+{
+    match Keys::of_all(rt) {
+        Ok(keys) => {
+            let bound = TcpPort::bind(rt.alloc(), rt, run.address);
+            let ended = serve_bound(rt, words, run, sealing(&keys), bound, output);
+            drop(keys);
+            ended
+        }
+        Err(refused) => end_unsealed(rt, refused),
+    }
 }
 
 /// Ends with status 1, and says why there are no keys; or by want of memory.

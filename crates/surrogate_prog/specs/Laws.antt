@@ -46,22 +46,26 @@ abbrev pub RunsMoveAlone : Type 0
 RunsMoveAlone = (frames : List (List ℕ)) (asks : List Ask) (old new : World) → WereSent frames old
     → MovedBy (AnyAsks frames) asks old new → MovedAlone asks old new
 
+-- the message is one of these
+abbrev pub IsOneOf : List Message → Message → Type 0
+IsOneOf messages message = IsIn message messages
+
 -- Frames that are served one after the other, each with what is asked for it. Before each of them and behind the last one the world goes on:
--- its client may send such messages. The operation of a frame was sent when its serving began.
-abbrev pub ServedInTurn : (Message → Type 0) → List (List ℕ × List Ask) → World → World → Type 0
-ServedInTurn MaySend [] old new = MovedBy MaySend [] old new
-ServedInTurn MaySend (turn ∷ turns) old new =
-    (begun : World) × (ended : World) × MovedBy MaySend [] old begun × WereSent (turn.0 ∷ []) begun
-    × MovedBy (AnyAsks (turn.0 ∷ [])) turn.1 begun ended × ServedInTurn MaySend turns ended new
+-- its client may send these messages. The operation of a frame was sent when its serving began.
+abbrev pub ServedInTurn : List Message → List (List ℕ × List Ask) → World → World → Type 0
+ServedInTurn sends [] old new = MovedBy (IsOneOf sends) [] old new
+ServedInTurn sends (turn ∷ turns) old new =
+    (begun : World) × (ended : World) × MovedBy (IsOneOf sends) [] old begun × WereSent (turn.0 ∷ []) begun
+    × MovedBy (AnyAsks (turn.0 ∷ [])) turn.1 begun ended × ServedInTurn sends turns ended new
 
 -- what was asked for them, in order
 abbrev pub asked_in : List (List ℕ × List Ask) → List Ask
 asked_in turns = flat_map (λ turn. turn.1) turns
 
--- of a client that sends meanwhile: the world moves as that client may move it, and what a surrogate asks is none of its sendings
+-- of a client that sends these messages meanwhile: it sends no others, so what a surrogate asks is none of its sendings
 abbrev pub TurnsMoveAlone : Type 0
-TurnsMoveAlone = (MaySend : Message → Type 0) (turns : List (List ℕ × List Ask)) (old new : World)
-    → ServedInTurn MaySend turns old new → MovedBy MaySend (asked_in turns) old new
+TurnsMoveAlone = (sends : List Message) (turns : List (List ℕ × List Ask)) (old new : World)
+    → ServedInTurn sends turns old new → MovedBy (IsOneOf sends) (asked_in turns) old new
 
 -- an operation that is declined since no server answered
 abbrev pub silent_cause : Cause → Bool

@@ -27,7 +27,7 @@ pub fn servings_keep_their_route()
 {}
 
 /// Law: where each operation of the world's client that was taken had been sent, the world moves as a surrogate may move it, and
-/// its client sends nothing. Of a client that sends meanwhile the world moves as that client may move it, frame by frame.
+/// its client sends nothing. Of a client that sends between the frames: it sends no others than it sent itself.
 pub fn worlds_move_alone()
     ensures run { RunsMoveAlone }
     ensures turns { TurnsMoveAlone }
