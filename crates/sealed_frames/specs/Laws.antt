@@ -1,7 +1,7 @@
 -- What holds of sealed frames.
 use Rattle.std.specs.Prelude.{◌≡◌, ℕ, ◌+◌, List, ◌++◌, length, Option, Some, Contains}
 use Rattle.sealed_frames.specs.declared.sealing.Way.{Way}
-use Rattle.sealed_frames.specs.declared.sealing.Way.TheVariants.{Back}
+use Rattle.sealed_frames.specs.declared.sealing.Way.TheVariants.{ToServer, ToSurrogate, Back}
 use Rattle.sealed_frames.specs.declared.sealing.TheConstants.{SEAL_BYTES, MAX_SEALED}
 use Rattle.sealed_frames.specs.Limits.{seal_bytes, max_sealed, max_frame}
 use Rattle.sealed_frames.specs.Sealing.{way_bytes, sealed, key_of, IsSealable, IsSealedUnder, IsSealedBy}
@@ -36,7 +36,8 @@ SealsAreOfOneFrame = (way way' : Way) (bytes key frame key' frame' : List ℕ) �
 -- the tag of the ask that a way back names has 32 bytes
 abbrev pub HasWholeTag : Way → Type 0
 HasWholeTag (Back asked) = length asked ≡ 32
-HasWholeTag _ = Unit {0}
+HasWholeTag ToServer = Unit {0}
+HasWholeTag ToSurrogate = Unit {0}
 
 -- no text of which a tag is made is that of another way or of another frame
 abbrev pub TextsAreApart : Type 0

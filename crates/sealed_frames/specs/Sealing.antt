@@ -21,9 +21,13 @@ way_bytes (Back asked) = 3 ∷ asked
 abbrev pub tag_of : List ℕ → Way → List ℕ → List ℕ
 tag_of key way frame = hmac key (way_bytes way ++ frame)
 
--- the frame with its seal before it: how many bytes follow, the mark and the tag
+-- the frame with the seal of this tag before it: how many bytes follow, the mark and the tag
+abbrev pub with_seal : List ℕ → List ℕ → List ℕ
+with_seal tag frame = to_be_bytes w32 (33 + length frame) ++ mark ∷ tag ++ frame
+
+-- the frame with its seal on a way, under a key
 abbrev pub sealed : List ℕ → Way → List ℕ → List ℕ
-sealed key way frame = to_be_bytes w32 (33 + length frame) ++ mark ∷ tag_of key way frame ++ frame
+sealed key way frame = with_seal (tag_of key way frame) frame
 
 -- a frame can be sealed: it has a client's number, and leaves room for a seal
 abbrev pub IsSealable : List ℕ → Type 0

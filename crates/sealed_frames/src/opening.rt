@@ -118,7 +118,7 @@ fn parts_of(bytes: &[u8]) -> (&[u8], &[u8])
     (tag, frame)
 }
 
-/// Whether two tags are equal. It looks at all bytes of both, so its time tells nothing of where they differ.
+/// Whether two tags are equal. It looks at all bytes of both, wherever they differ; that it takes the same time is no clause.
 #[tactic(auto, using(crate::proofs::Tags::seen_more))]
 fn is_same(one: &[u8; 32], other: &[u8]) -> bool
     requires { length other.now ≡ 32 }

@@ -1,7 +1,9 @@
 // Frames that are sealed.
 ghost use Rattle.std.specs.Prelude.{◌≡◌, ◌↔◌, ◌≤◌, ◌<◌, ◌++◌, ℕ, List, length, slice_index, IsTrue, IfOk};
 ghost use Rattle.sealed_frames.specs.Holding.{HoldsUnder};
-ghost use Rattle.sealed_frames.specs.Sealing.{way_bytes, tag_of, sealed, key_of, IsSealable};
+ghost use Rattle.sealed_frames.specs.Sealing.{way_bytes, tag_of, with_seal, sealed, key_of, frame_in, IsSealable};
+ghost use Rattle.sealed_frames.specs.Limits.{seal_bytes};
+ghost use Rattle.std.specs.Vec.{vec_len};
 
 use crate::hmac::Hmac;
 use std::alloc::{AllocError, Global};
@@ -75,12 +77,31 @@ pub fn seal(alloc: Global, key: &[u8; 32], way: &Way, frame: &[u8]) -> Result<Ve
     requires { IsSealable frame.now }
     ensures { IfOk result (λ bytes. bytes.items ≡ sealed key.now way.now frame.now) }
 {
-    let tag = tag_of(key, way, frame);
+    put_seal(alloc, &tag_of(key, way, frame), frame)
+}
+
+/// The frame with the seal of this tag before it.
+///
+/// # Errors
+///
+/// Want of memory.
+pub fn put_seal(alloc: Global, tag: &[u8; 32], frame: &[u8]) -> Result<Vec<u8>, AllocError>
+    requires { IsSealable frame.now }
+    ensures { IfOk result (λ bytes. bytes.items ≡ with_seal tag.now frame.now) }
+{
     let behind = SEAL_BYTES - 4 + frame.len();
     let mut bytes = Vec::with_capacity(alloc, SEAL_BYTES + frame.len())?;
     bytes.extend_from_slice(&(behind as u32).to_be_bytes())?;
     bytes.push(MARK)?;
-    bytes.extend_from_slice(&tag)?;
+    bytes.extend_from_slice(tag)?;
     bytes.extend_from_slice(frame)?;
     Ok(bytes)
+}
+
+/// Leaves of sealed bytes the frame behind the seal, in place.
+pub fn drop_seal(bytes: &mut Vec<u8>)
+    requires { seal_bytes ≤ vec_len bytes.old }
+    ensures { bytes.new.items ≡ frame_in bytes.old.items }
+{
+    bytes.drain(..SEAL_BYTES);
 }
