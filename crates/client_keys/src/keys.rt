@@ -4,9 +4,9 @@ ghost use Rattle.std.specs.Prelude.{◌≡◌};
 use crate::key_file::{FILE_BYTES, KEY_BYTES, key_in};
 use std::alloc::{AllocError, AllocFailed, Global};
 use std::env::{self, VarError};
-use std::fs::{self, File, Files};
+use std::fs::{self, File, Files, Metadata};
 use std::io::{self, ErrorKind, Read};
-use std::os::unix::fs::PermissionsExt;
+use std::os::unix::fs::MetadataExt;
 use std::rt::Env;
 use thiserror::Error;
 use wire_frames::CLIENTS;
@@ -20,12 +20,21 @@ const KEYS: &str = "HAURPIKO_KEYS";
 /// The rights of others than its owner. The file of a key gives none of them.
 const OF_OTHERS: u32 = 0o077;
 
+/// What has the user of this process as its owner.
+const SELF: &str = "/proc/self";
+
+/// The number of the user who may do everything.
+const ROOT: u32 = 0;
+
 /// How many bytes of a file are read: one more than a key has, so that a longer one is seen.
 const MOST_READ: u64 = FILE_BYTES as u64 + 1;
 
 /// Why a file gives no key.
 #[derive(Debug, Drop, Error)]
 pub enum KeyFault {
+    /// Its owner is neither the user of this process nor root.
+    #[error("it belongs to another user")]
+    Foreign,
     /// Others than its owner have rights.
     #[error("others than its owner may read it")]
     Shared,
@@ -237,7 +246,7 @@ fn named<R: Env + AllocGlobal>(
 fn stands<R: Files>(host: &R, name: &str) -> bool {
     match fs::symlink_metadata(host, name) {
         Ok(_) => true,
-        Err(error) => error.kind() != ErrorKind::NotFound,
+        Err(error) => !matches!(error.kind(), ErrorKind::NotFound | ErrorKind::NotADirectory),
     }
 }
 
@@ -250,19 +259,21 @@ fn no_keys<R: Files>(host: &R, folder: &str) -> KeyFault {
     }
 }
 
-/// The key in the file of this name. What is no file is not opened, so that nothing is waited for.
+/// The key in the file of this name. What is no file is not opened, so that nothing is waited for. Who may read it is looked at once it is
+/// open, so that it is the file that is read.
 fn key_of_file<R: Files<File = File> + AllocGlobal>(
     host: &R,
     name: &str,
 ) -> Result<[u8; KEY_BYTES], KeyFault> {
-    let seen = fs::metadata(host, name).map_err(KeyFault::Platform)?;
-    if !seen.is_file() {
+    let user = fs::metadata(host, SELF).map_err(KeyFault::Platform)?.uid();
+    let named = fs::metadata(host, name).map_err(KeyFault::Platform)?;
+    if !named.is_file() {
         return Err(KeyFault::OtherForm);
     }
-    if seen.permissions().mode() & OF_OTHERS != 0 {
-        return Err(KeyFault::Shared);
-    }
     let file = File::open(host, name).map_err(KeyFault::Platform)?;
+    if let Some(fault) = fault_of(&file.metadata().map_err(KeyFault::Platform)?, user) {
+        return Err(fault);
+    }
     let mut text = Vec::new(host.alloc());
     let read = file.take(MOST_READ).read_to_end(&mut text);
     let key = key_in(&text);
@@ -272,4 +283,18 @@ fn key_of_file<R: Files<File = File> + AllocGlobal>(
         (Ok(_), None) => Err(KeyFault::OtherForm),
         (Ok(_), Some(key)) => Ok(key),
     }
+}
+
+/// Why this user does not take a key from the file, where they do not.
+fn fault_of(seen: &Metadata, user: u32) -> Option<KeyFault> {
+    if !seen.is_file() {
+        return Some(KeyFault::OtherForm);
+    }
+    if seen.uid() != user && seen.uid() != ROOT {
+        return Some(KeyFault::Foreign);
+    }
+    if seen.mode() & OF_OTHERS != 0 {
+        return Some(KeyFault::Shared);
+    }
+    None
 }
