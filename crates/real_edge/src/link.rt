@@ -62,7 +62,7 @@ pub struct TcpLink<'a, N: Net + Clock, T: Teller + Drop = Untold> {
     alloc: Global,
     net: &'a N,
     teller: T,
-    /// By which its frames are sealed, at place N the key of client N; none where they go as they are.
+    /// The keys that its frames are sealed by; at place N that of client N; none where they go as they are.
     keys: Option<&'a [Option<[u8; 32]>]>,
     silent: Addresses,
     refused: Addresses,

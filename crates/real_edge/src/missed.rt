@@ -119,7 +119,18 @@ impl Missed {
                 code: OTHER_VERSION,
                 ..
             } => Missed::OtherVersion,
-            _ => Missed::NoReply,
+            Message::Store { .. }
+            | Message::Operate { .. }
+            | Message::Pull { .. }
+            | Message::Accepted { .. }
+            | Message::Stale { .. }
+            | Message::Unfit { .. }
+            | Message::Gap { .. }
+            | Message::Snapshot { .. }
+            | Message::Done { .. }
+            | Message::Declined { .. }
+            | Message::Full { .. }
+            | Message::Malformed { .. } => Missed::NoReply,
         }
     }
 
@@ -148,7 +159,19 @@ impl Missed {
     pub(crate) fn to_link(&self) -> LinkError {
         match self {
             Missed::Memory => LinkError::Memory,
-            _ => LinkError::Failed,
+            Missed::NoForm
+            | Missed::NoName
+            | Missed::NoLookup(_)
+            | Missed::NoConnection(_)
+            | Missed::Broken(_)
+            | Missed::Silent(_)
+            | Missed::Closed(_)
+            | Missed::OtherNode
+            | Missed::OtherVersion
+            | Missed::NoReply
+            | Missed::Unsealed
+            | Missed::NoKey
+            | Missed::Oversize => LinkError::Failed,
         }
     }
 }

@@ -1,14 +1,12 @@
 // Frames as they go to a peer.
 ghost use Rattle.std.specs.Prelude.{◌≡◌, ◌↔◌, ◌≤◌, ℕ, List, false, IsTrue, None, Err, IfOk, OnErr};
 ghost use Rattle.std.specs.Option.{option_copied};
-ghost use Rattle.std.specs.Vec.{vec_len};
 ghost use Rattle.sealed_frames.specs.declared.sealing.Way.TheVariants.{Back};
-ghost use Rattle.sealed_frames.specs.Limits.{seal_bytes};
 ghost use Rattle.sealed_frames.specs.Sealing.{key_of, IsSealable, IsSealedUnder, frame_in};
 ghost use Rattle.real_edge.specs.Outgoing.{way_to, bytes_of, GoesSealed, GoesOut, LacksKey, LacksRoom, OpensAs};
 
 use crate::missed::Missed;
-use sealed_frames::{SEAL_BYTES, Way, is_sealable, key_of, open_answer, seal, tag_of};
+use sealed_frames::{Way, drop_seal, is_sealable, key_of, open_answer, put_seal, tag_of};
 use std::alloc::Global;
 use world_rules::Peer;
 
@@ -82,13 +80,9 @@ fn sealed<'f>(
     if !is_sealable(frame) {
         return Err(Missed::Oversize);
     }
-    let way = way_to(to);
-    match seal(alloc, &key, &way, frame) {
-        Ok(bytes) => Ok(Outgoing::Sealed {
-            bytes,
-            key,
-            tag: tag_of(&key, &way, frame),
-        }),
+    let tag = tag_of(&key, &way_to(to), frame);
+    match put_seal(alloc, &tag, frame) {
+        Ok(bytes) => Ok(Outgoing::Sealed { bytes, key, tag }),
         Err(_) => Err(Missed::Memory),
     }
 }
@@ -123,12 +117,4 @@ fn is_answer(key: &[u8; 32], asked: &[u8; 32], bytes: &[u8]) -> bool
     ensures none { result ≡ false → (frame : List ℕ) → IsSealedUnder key.now (Back asked.now) bytes.now frame → ⊥ }
 {
     open_answer(key, asked, bytes).is_ok()
-}
-
-/// Leaves of sealed bytes the frame behind the seal.
-fn drop_seal(bytes: &mut Vec<u8>)
-    requires { seal_bytes ≤ vec_len bytes.old }
-    ensures { bytes.new.items ≡ frame_in bytes.old.items }
-{
-    bytes.drain(..SEAL_BYTES);
 }
