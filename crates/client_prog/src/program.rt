@@ -79,7 +79,7 @@ For answers, statuses and files: man haurpiko-client
 const VERSION: &str = "\
 client 0.1.0
 frames: version 3; images: written: version 2; read: versions 1 and 2
-kit: rattle-kit-13b logic dac8208d650f15bf
+kit: rattle-kit-13f logic dac8208d650f15bf
 ";
 
 /// What the words may ask for in place of a run.

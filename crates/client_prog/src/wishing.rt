@@ -1,5 +1,5 @@
 // What the environment says of the programs that are run, and of the client's key.
-ghost use Rattle.std.specs.Prelude.{◌≡◌, ◌≢◌, IsTrue};
+ghost use Rattle.std.specs.Prelude.{◌≢◌, IsTrue};
 ghost use Rattle.std.specs.Process.{exit_status};
 ghost use Rattle.client_prog.specs.Ending.{is_exit};
 

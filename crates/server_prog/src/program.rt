@@ -57,7 +57,7 @@ For statuses, files and limits: man haurpiko-server
 const VERSION: &str = "\
 server 0.1.0
 frames: version 3; images: written: version 2; read: versions 1 and 2
-kit: rattle-kit-13b logic dac8208d650f15bf
+kit: rattle-kit-13f logic dac8208d650f15bf
 ";
 
 /// What the words may ask for in place of a run.

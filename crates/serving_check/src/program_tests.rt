@@ -7,14 +7,14 @@ use std::test::Fail;
 const SERVER_VERSION: &str = "\
 server 0.1.0
 frames: version 3; images: written: version 2; read: versions 1 and 2
-kit: rattle-kit-13b logic dac8208d650f15bf
+kit: rattle-kit-13f logic dac8208d650f15bf
 ";
 
 /// And a surrogate of its own.
 const SURROGATE_VERSION: &str = "\
 surrogate 0.1.0
 frames: version 3
-kit: rattle-kit-13b logic dac8208d650f15bf
+kit: rattle-kit-13f logic dac8208d650f15bf
 ";
 
 #[test]

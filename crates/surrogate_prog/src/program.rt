@@ -64,7 +64,7 @@ For statuses and files: man haurpiko-surrogate
 const VERSION: &str = "\
 surrogate 0.1.0
 frames: version 3
-kit: rattle-kit-13b logic dac8208d650f15bf
+kit: rattle-kit-13f logic dac8208d650f15bf
 ";
 
 /// What the words may ask for in place of a run.

@@ -1,5 +1,5 @@
 // What the environment says of the programs that are run, and of who may have them run.
-ghost use Rattle.std.specs.Prelude.{◌≡◌, ◌≢◌, IsTrue};
+ghost use Rattle.std.specs.Prelude.{◌≢◌, IsTrue};
 ghost use Rattle.std.specs.Process.{exit_status};
 ghost use Rattle.surrogate_prog.specs.Run.{is_surrogate_exit};
 
@@ -19,7 +19,7 @@ use thiserror::Error;
 pub(crate) struct Wishes {
     pub(crate) apart: ApartWish,
     pub(crate) keys: Option<Keys>,
-    /// The files of the keys, which are empty for programs that run apart.
+    /// The files of the keys, which are empty for programs that run apart from files.
     pub(crate) hidden: Vec<String>,
 }
 
