@@ -1,5 +1,5 @@
 # shellcheck shell=sh
-# What the scripts below bench/ share. Each begins with `. "$(dirname "$0")/../common.sh"`.
+# What the scripts below bench/ and oracle/ share. Each sources it at its begin, by its path from the script's folder.
 #
 # Over which programs a script runs:
 #   CLIENT=.. SERVER=.. SURROGATE=..   these, each where it is named

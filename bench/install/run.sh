@@ -1,7 +1,7 @@
 #!/bin/bash
 # Whether the programs install, run from where they were installed, and leave no file when they are removed. In folders of its own: the
-# pages are shown, without a word of mandoc and groff, and have the answers that `questions` asks for; tools/install installs below a
-# PREFIX and below a DESTDIR, and removes; tools/package makes the same package twice, which is unpacked, and installed and removed by
+# pages are shown, without a word of mandoc and groff, and have the answers that `questions` asks for; dist/install installs below a
+# PREFIX and below a DESTDIR, and removes; dist/package makes the same package twice, which is unpacked, and installed and removed by
 # dpkg in a root folder of its own. From each of the three places runs the session of the client's page, and one whose commands go as
 # commands; from PREFIX also with a key that haurpiko-key made. The completion is typed at a terminal. Ends with 1 where something differs.
 #
@@ -208,8 +208,8 @@ try_folders() {
 files_below() { (cd "$1" && find . ! -type d | sort); }
 
 try_install() {
-    "$top/tools/install" "${from[@]}" "$work/prefix" > "$work/said"
-    (cd "$work" && DESTDIR=$work/dest "$top/tools/install" "${from[@]}" /opt/haurpiko > "$work/said")
+    "$top/dist/install" "${from[@]}" "$work/prefix" > "$work/said"
+    (cd "$work" && DESTDIR=$work/dest "$top/dist/install" "${from[@]}" /opt/haurpiko > "$work/said")
     files_below "$work/prefix" > "$work/one"
     files_below "$work/dest/opt/haurpiko" > "$work/two"
     same "PREFIX and DESTDIR get the same files" "$work/one" "$work/two"
@@ -230,10 +230,10 @@ try_install() {
     try_key "$work/prefix/bin"
     try_first_session "$work/prefix/bin"
     try_readme_session "$work/prefix/bin"
-    "$top/tools/install" "${from[@]}" "$work/prefix" > "$work/said"
+    "$top/dist/install" "${from[@]}" "$work/prefix" > "$work/said"
     mkdir -p "$work/dest/opt/other"
-    "$top/tools/install" --remove "$work/prefix" > "$work/said"
-    DESTDIR=$work/dest "$top/tools/install" --remove /opt/haurpiko > "$work/said"
+    "$top/dist/install" --remove "$work/prefix" > "$work/said"
+    DESTDIR=$work/dest "$top/dist/install" --remove /opt/haurpiko > "$work/said"
     holds "nothing is left of PREFIX" is_gone "$work/prefix"
     printf '%s\n' . ./opt ./opt/other > "$work/one"
     (cd "$work/dest" && find . | sort) > "$work/two"
@@ -257,8 +257,8 @@ root_files() { (cd "$work/root" && find . -path ./var/lib/dpkg -prune -o -path .
 
 try_package() {
     mkdir "$work/debs"
-    "$top/tools/package" "${from[@]}" "$work/debs/haurpiko.deb" > "$work/said"
-    (umask 077 && TZ=Asia/Tokyo TMPDIR=$work/debs "$top/tools/package" "${from[@]}" "$work/debs/again.deb" > "$work/said")
+    "$top/dist/package" "${from[@]}" "$work/debs/haurpiko.deb" > "$work/said"
+    (umask 077 && TZ=Asia/Tokyo TMPDIR=$work/debs "$top/dist/package" "${from[@]}" "$work/debs/again.deb" > "$work/said")
     silent "a second package has the same bytes" cmp "$work/debs/haurpiko.deb" "$work/debs/again.deb"
     if command -v lintian > /dev/null; then
         silent "lintian says nothing" lintian --allow-root --fail-on error,warning "$work/debs/haurpiko.deb"

@@ -1,7 +1,7 @@
 #!/bin/sh
 # What seals cost, and what they keep out: the payload bytes of a sync, a pull and an operation with keys and without, over a proxy of this
 # machine that counts; the time of 10,000 syncs of one put with keys and without, in turns; and strangers at a server, at a surrogate and
-# between a client and its server, each of whom is to change nothing; and what a command reads of the keys. Keys are made by tools/key, and
+# between a client and its server, each of whom is to change nothing; and what a command reads of the keys. Keys are made by dist/key, and
 # seals by the player in Python.
 # Ends with 1 where something is not as wanted. With builds of `rt try` take fewer SYNCS.
 #

@@ -16,12 +16,12 @@ import threading
 import time
 
 HERE = pathlib.Path(__file__).resolve().parent
-sys.path[:0] = [str(HERE.parent / "link"), str(HERE.parent / "fuzz")]
+sys.path[:0] = [str(HERE.parent / "link"), str(HERE.parent.parent / "oracle/fuzz")]
 from proxy import Link  # noqa: E402
 from values import ACCEPTED, DECLINED, DONE, OPERATE, PULL, STORE, frame, u8, u32, u64  # noqa: E402
 
 SERVER, CLIENT, SURROGATE = (os.environ[name] for name in ("SERVER", "CLIENT", "SURROGATE"))
-KEY = HERE.parent.parent / "tools" / "key"
+KEY = HERE.parent.parent / "dist" / "key"
 MARK, SEAL = 0xE5, 37  # what stands where a plain frame has its version, and how many bytes a seal has
 TO_SERVER, TO_SURROGATE, BACK = b"\1", b"\2", b"\3"
 PATIENCE = 300  # seconds for a session

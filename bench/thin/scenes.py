@@ -233,7 +233,7 @@ def play(top, name, who, way):
 def ways():
     """Who plays each scene, and how."""
     own = {name: os.environ[name.upper()] for name in ("client", "server", "surrogate")}
-    importer = HERE.parent.parent / "tools/import"
+    importer = HERE.parent.parent / "dist/import"
     found = [("ours", lambda *it: play_ours(*it, own, importer))]
     if "BEFORE" in os.environ:
         folder = pathlib.Path(os.environ["BEFORE"]).resolve()

@@ -1,5 +1,5 @@
 #!/bin/sh
-# Brings folders in by tools/import and out again by tools/export, and compares them byte for byte: one with odd names and contents, and the
+# Brings folders in by dist/import and out again by dist/export, and compares them byte for byte: one with odd names and contents, and the
 # sources of this repository. What cannot go has to be named, and nothing else; what may be run has to run when it is in. Ends with 1 where
 # something is wrong.
 #
@@ -23,11 +23,11 @@ run_client() {
 both_ways() {
     status=0
     # shellcheck disable=SC2086
-    "$top/tools/import" "$1" $2 > "$3.lines" 2> "$3.said" || status=$?
+    "$top/dist/import" "$1" $2 > "$3.lines" 2> "$3.said" || status=$?
     [ "$status" = "$4" ] || fail "import ends with $status, and not with $4: $(cat "$3.said")"
     run_client "$3.image" < "$3.lines" > "$3.answers"
     ! grep -Ev '^(logged [0-9]+( status 0)?|acknowledged 0 pending [0-9]+)$' "$3.answers" || fail "a line of import was refused"
-    "$top/tools/export" "$3" --from "/$2" -- "$CLIENT" run 1 "$work/$3.image" 127.0.0.1:1 - "$work/work" || fail "export"
+    "$top/dist/export" "$3" --from "/$2" -- "$CLIENT" run 1 "$work/$3.image" 127.0.0.1:1 - "$work/work" || fail "export"
 }
 
 cd "$work"
@@ -77,14 +77,14 @@ for it in './sub/seven 7' './eight 8' './line 126'; do
 done
 both_ways odd far/away again 1
 diff -r wanted again || fail "the folder with odd names came out of a folder in another form"
-! "$top/tools/export" odd -- true 2> /dev/null || fail "export writes over a folder that is not empty"
+! "$top/dist/export" odd -- true 2> /dev/null || fail "export writes over a folder that is not empty"
 
 # names that lines cannot say, made by a program
 printf '%s\n' "run env=PATH=/usr/bin:/bin -- /bin/sh -c 'mkdir d e; touch \"d/\$(printf x\\\\ny)\" \"e/\$(printf \\\\047)\" e/f'" |
     run_client odd.image > odd.answers
 grep -q '^logged 1 status 0$' odd.answers || fail "a program makes odd names"
 status=0
-"$top/tools/export" odd-out -- "$CLIENT" run 1 "$work/odd.image" 127.0.0.1:1 - "$work/work" 2> odd.said || status=$?
+"$top/dist/export" odd-out -- "$CLIENT" run 1 "$work/odd.image" 127.0.0.1:1 - "$work/work" 2> odd.said || status=$?
 [ "$status $(wc -l < odd.said) $(find odd-out | sort | tr '\n' ' ')" = '1 2 odd-out odd-out/d odd-out/e odd-out/e/f ' ] ||
     fail "two names cannot be exported: $status, $(cat odd.said), $(find odd-out)"
 

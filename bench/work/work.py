@@ -23,7 +23,7 @@ import pieces  # noqa: E402
 import table  # noqa: E402
 
 CACHE, OUT = os.environ["CACHE"], os.environ["OUT"]
-IMPORT = f"{HERE}/../../tools/import"
+IMPORT = f"{HERE}/../../dist/import"
 PATIENCE = 900  # seconds for an answer: a silent surrogate costs as much before the files go
 APART = 2.1  # seconds between the two runs
 QUICK = 30  # seconds: a command that takes longer is not made a third time, to see what differs

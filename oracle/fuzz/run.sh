@@ -13,7 +13,7 @@
 #   words    of the command line: a status of docs/ANSWERS.md, with its line on standard error
 # No program is ended by a signal, or takes longer than two minutes. It ends with 1 where anything differs, and tells each finding.
 #
-#   bench/fuzz/run.sh [COUNT [SECONDS [SEED [ROUND]]]]
+#   oracle/fuzz/run.sh [COUNT [SECONDS [SEED [ROUND]]]]
 #
 # COUNT cases at least, or as many as come in SECONDS: 50,000 and 120, where nothing else is said. SEED is chosen by chance and told. A
 # finding says its round: over the same programs COUNT, SECONDS, SEED and ROUND play just that one again. JOBS rounds are played side by
@@ -21,8 +21,8 @@
 #
 # It wants the Debian package python3, and listens at 127.0.0.1 alone.
 set -eu
-# shellcheck source-path=SCRIPTDIR/.. source=common.sh
-. "$(dirname "$0")/../common.sh"
+# shellcheck source-path=SCRIPTDIR/../../bench source=common.sh
+. "$(dirname "$0")/../../bench/common.sh"
 wants python3 python3
 for name in server surrogate client; do
     if [ -n "${PROGRAMS-}" ] && ! [ -e "$PROGRAMS/$name" ]; then
