@@ -5,10 +5,10 @@ mod stage;
 mod telling;
 mod words;
 
-use scene_files::play_folder;
 use stage::Certificates;
 use std::io;
 use std::process::ExitCode;
+use t_scene_files::play_folder;
 
 fn main(rt: HostRuntime) -> io::Result<ExitCode> {
     let mut stage = Certificates::new(rt.alloc());

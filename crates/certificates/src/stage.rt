@@ -2,8 +2,8 @@
 
 use crate::telling::told;
 use crate::words::{Act, Change, Given, Want, meaning_of};
-use scene_files::{Fault, Line, Report, Stage, number, small};
 use std::alloc::Global;
+use t_scene_files::{Fault, Line, Report, Stage, number, small};
 use tree_proof::{check, prove, root_of};
 use vol_tree::{Content, Effect, Path, PathError, Tree, TreeError};
 

@@ -1,7 +1,7 @@
 // What is found, as text.
 
-use scene_files::Fault;
 use std::alloc::{AllocError, Global};
+use t_scene_files::Fault;
 use tree_proof::{CheckError, Finding, SlimNode, SlimRow};
 
 /// What a check came to.

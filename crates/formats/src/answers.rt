@@ -1,7 +1,7 @@
 // What readers say of bytes.
 
-use scene_files::{Fault, number};
 use std::alloc::{AllocError, Global};
+use t_scene_files::{Fault, number};
 use vol_tree::TakeError;
 
 /// What a reader says.

@@ -4,9 +4,9 @@ use crate::frames::framed;
 use crate::looks::look_at;
 use crate::readers::Subject;
 use crate::words::{Kind, Look, Says, saying_of, takes_words};
-use scene_files::{Fault, Line, Report, Stage};
 use std::alloc::Global;
 use std::mem;
+use t_scene_files::{Fault, Line, Report, Stage};
 
 /// The bytes that a scene speaks of.
 #[derive(Drop)]

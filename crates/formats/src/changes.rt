@@ -3,8 +3,8 @@
 use crate::answers::{Answer, answer_in, text_of};
 use crate::readers::{Subject, answer_of};
 use crate::words::{Change, Kind};
-use scene_files::{Fault, Report, number};
 use std::alloc::{AllocError, Global};
+use t_scene_files::{Fault, Report, number};
 
 /// The bytes, changed so at the place.
 fn changed(subject: &Subject<'_>, change: Change, place: usize) -> Result<Vec<u8>, AllocError> {

@@ -4,9 +4,9 @@ ghost use Rattle.wire_frames.specs.Frame.{IsValid};
 use crate::answers::Answer;
 use crate::readers::Told;
 use crate::texts::put_text;
-use scene_files::Fault;
 use std::alloc::{AllocError, Global};
 use std::mem;
+use t_scene_files::Fault;
 use vol_tree::TryCopy;
 use wire_frames::{FrameError, Message, echoes, read, write};
 

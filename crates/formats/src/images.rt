@@ -3,12 +3,12 @@
 use crate::answers::Answer;
 use crate::readers::Told;
 use crate::texts::put_text;
-use scene_files::Fault;
 use std::alloc::Global;
 use std::mem;
 use store_image::{
     ClientImage, ImageError, ServerImage, read_client, read_server, write_client, write_server,
 };
+use t_scene_files::Fault;
 
 /// Reads a client's image.
 pub(crate) fn read_clients(alloc: Global, bytes: &[u8], told: &mut Told) -> Result<Answer, Fault> {

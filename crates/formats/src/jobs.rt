@@ -6,8 +6,8 @@ use crate::readers::Told;
 use crate::texts::put_path;
 use crate::values::put_node;
 use cmd_capture::{Job, JobRow};
-use scene_files::Fault;
 use std::alloc::{AllocError, Global};
+use t_scene_files::Fault;
 use vol_tree::TryCopy;
 
 /// Reads a job.

@@ -12,8 +12,8 @@ use crate::texts::{
 use crate::values::{limits, put_bases, put_effects};
 use cmd_capture::{Command, Env};
 use mod_log::{Entry, Origin, SketchEffect, SketchEffects};
-use scene_files::{Fault, number};
 use std::alloc::{AllocError, Global};
+use t_scene_files::{Fault, number};
 use vol_tree::{Content, TakeError, TryCopy};
 
 /// Reads a command.

@@ -5,7 +5,7 @@ use crate::changes::{OTHER_END, entry_of, look_at_changes, sum_of_answers, table
 use crate::frames::answers;
 use crate::readers::{Subject, Told, answer_of, read_as};
 use crate::words::Look;
-use scene_files::{Fault, Line, Report, number};
+use t_scene_files::{Fault, Line, Report, number};
 
 /// Looks at the bytes as the line says.
 pub(crate) fn look_at(

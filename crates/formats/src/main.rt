@@ -15,9 +15,9 @@ mod values;
 mod words;
 
 use bytes::Bytes;
-use scene_files::play_folder;
 use std::io;
 use std::process::ExitCode;
+use t_scene_files::play_folder;
 
 fn main(rt: HostRuntime) -> io::Result<ExitCode> {
     let mut stage = Bytes::new(rt.alloc());

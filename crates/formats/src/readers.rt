@@ -7,8 +7,8 @@ use crate::jobs::read_job;
 use crate::logs::{read_command, read_entry, read_origin, read_sketches};
 use crate::values::{read_base, read_content, read_effects, read_parent, read_path, read_rows};
 use crate::words::Kind;
-use scene_files::Fault;
 use std::alloc::Global;
+use t_scene_files::Fault;
 
 /// Bytes, what they are looked at as, and what stood behind that in its line.
 #[derive(Clone, Copy)]

@@ -9,8 +9,8 @@ use crate::readers::Told;
 use crate::texts::{
     put_file, put_mode, put_move, put_number, put_path, put_path_line, put_touched, put_word,
 };
-use scene_files::{Fault, number};
 use std::alloc::{AllocError, Global};
+use t_scene_files::{Fault, number};
 use vol_tree::{
     Base, Bases, Content, Effect, Effects, MAX_EFFECTS, MAX_FILE, MAX_FILES, Node, Path, Paths,
     Row, Rows, TakeError, Tree,

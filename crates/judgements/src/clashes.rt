@@ -5,8 +5,8 @@ ghost use Rattle.cmd_capture.specs.Rows.{AreJobRows};
 use crate::given::{Given, Side};
 use crate::judging::{effects_told, job_on, legal_rows, path_of, raw_rows};
 use cmd_capture::{JobRows, RawRow};
-use scene_files::Fault;
 use std::alloc::Global;
+use t_scene_files::Fault;
 use vol_tree::{Effect, Effects, Node, Tree, TryCopy};
 use work_area::clash;
 

@@ -3,8 +3,8 @@
 use crate::given::word_at;
 use crate::words::Law;
 use gf_65536::{add, inv, mul, pow};
-use scene_files::Fault;
 use std::alloc::Global;
+use t_scene_files::Fault;
 
 /// The element that the word in this place tells, in hexadecimal digits.
 fn element(words: &[&str], place: usize) -> Result<u16, Fault> {

@@ -1,8 +1,8 @@
 // What the lines of a scene give.
 
 use crate::words::Kind;
-use scene_files::{Fault, number, small};
 use std::alloc::Global;
+use t_scene_files::{Fault, number, small};
 
 /// Whose rows or effects are told: first the job's, then what stands beside it, then those of the client's run or of its entry, and then
 /// the replay's.

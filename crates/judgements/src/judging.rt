@@ -10,8 +10,8 @@ use cmd_capture::{Command, Env, Job, JobRows, Outcome, RawRow, RawRows, Template
 use mod_log::{Origin, SketchEffect, SketchEffects, SketchEntry};
 use replay_judge::{Verdict, judge};
 use rs_parity::sketch_of;
-use scene_files::{Fault, small};
 use std::alloc::{AllocError, Global};
+use t_scene_files::{Fault, small};
 use vol_tree::{Bases, Content, Effect, Effects, MAX_FILE, Node, Path, Paths};
 use work_area::{RowsFault, changes, rows_of};
 

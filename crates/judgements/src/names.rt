@@ -8,8 +8,8 @@ use crate::judging::{entry_effects, legal_rows, templates};
 use crate::telling::{tell_path, tell_rows};
 use cmd_capture::{JobRows, Templates};
 use mod_log::SketchEffects;
-use scene_files::Fault;
 use std::alloc::{AllocError, Global};
+use t_scene_files::Fault;
 use temp_names::{Renamed, fits, rename, renaming_of};
 use vol_tree::Content;
 

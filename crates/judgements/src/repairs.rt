@@ -5,8 +5,8 @@ use crate::words::Kind;
 use byte_fields::TakeError;
 use rs_parity::{PARITY, Parities, Sketch, sketch_of};
 use rs_repair::repair;
-use scene_files::{Fault, number};
 use std::alloc::{AllocError, Global};
+use t_scene_files::{Fault, number};
 use vol_tree::MAX_FILE;
 
 /// The bytes of a parity.

@@ -7,9 +7,9 @@ use crate::judging::verdict_told;
 use crate::names::{fit_told, pairs_told, renamed_told};
 use crate::repairs::{repair_told, sketch_told, taken_told};
 use crate::words::{Act, Kind, Subject, Want, has_block, meaning_of};
-use scene_files::{Fault, Line, Report, Stage};
 use std::alloc::{AllocError, Global};
 use std::mem;
+use t_scene_files::{Fault, Line, Report, Stage};
 
 /// What the lines of a scene gave.
 #[derive(Drop)]

@@ -1,5 +1,0 @@
-use Rattle.vol_tree.specs.Undos.{CanUndoAll}
-use Rattle.tree_check.proofs.undone.go_on.Given as goal
-
-abbrev pub invariant-loop : goal.invariant-loop
-invariant-loop l = CanUndoAll l.undos.items l.tree
