@@ -1,6 +1,7 @@
 #!/usr/bin/env python3
-"""table.py CLIENT FILE..: plays the certificates of scenes (`crates/certificates/data`), their fronts, and those with another byte, over a client's
-`check ROOT PATH`, one process each, and compares line and status. Scenes of trees are left out. Ends with 1 where something differs."""
+"""table.py CLIENT FILE..: plays the certificates of scenes (`crates/t_calls/data/table.scenes`), their fronts, and those with another byte,
+over a client's `check ROOT PATH`, one process each, and compares line and status. Scenes of trees are left out. Ends with 1 where something
+differs."""
 import subprocess
 import sys
 from concurrent.futures import ThreadPoolExecutor

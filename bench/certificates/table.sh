@@ -1,5 +1,5 @@
 #!/bin/sh
-# Checks each certificate of crates/certificates/data/table.scenes, its fronts, and it with another byte at each place, by `client check` over
+# Checks each certificate of crates/t_calls/data/table.scenes, its fronts, and it with another byte at each place, by `client check` over
 # pipes, one process each, and compares what is written and the status with the table.
 #
 # Wants the Debian package python3.
@@ -8,4 +8,4 @@ set -eu
 . "$(dirname "$0")/../common.sh"
 wants python3 python3
 programs client
-python3 "$here/table.py" "$CLIENT" "$top/crates/certificates/data/table.scenes"
+python3 "$here/table.py" "$CLIENT" "$top/crates/t_calls/data/table.scenes"

@@ -1,6 +1,0 @@
-use Rattle.std.proofs.Common.{arith}
-use Rattle.formats.proofs.Fits.{entry_taken_fits}
-use Rattle.formats.proofs.logs.entry_taken.Goals as goal
-
-pub returns : goal.returns
-returns c = entry_taken_fits c.args.number c.args.bytes.now c.take.result (λ i. omega (arith, c.type_inv.bytes i)) c.take.ensures
