@@ -1,0 +1,7 @@
+//! Tests of what no clause says of pieces.
+#![tactic(auto)]
+
+#[cfg(test)]
+mod contents;
+#[cfg(test)]
+mod spellings;
