@@ -175,16 +175,30 @@ const WORDS: [(&str, Topic, Act, bool); 72] = [
 ///
 /// No line begins so, or none of such a scene. A scene that has spoken of nothing but its lines may go on with any.
 pub(crate) fn meaning_of(first: &str, spoken: Topic) -> Result<(Topic, Act, bool), Fault> {
-    let mut fault = "no line begins so";
     for (word, topic, act, has_block) in &WORDS {
-        if *word == first {
-            if spoken == Topic::Line || spoken == *topic {
-                return Ok((*topic, *act, *has_block));
-            }
-            fault = "the scene speaks of something else";
+        if *word == first && may_follow(*topic, spoken) {
+            return Ok((*topic, *act, *has_block));
         }
     }
-    Err(Fault::Line(fault))
+    if is_word(first) {
+        return Err(Fault::Line("the scene speaks of something else"));
+    }
+    Err(Fault::Line("no line begins so"))
+}
+
+/// Whether a line that speaks of this may stand in a scene that speaks of that.
+fn may_follow(topic: Topic, spoken: Topic) -> bool {
+    spoken == Topic::Line || spoken == topic
+}
+
+/// Whether a line may begin with this word.
+fn is_word(first: &str) -> bool {
+    for (word, _, _, _) in &WORDS {
+        if *word == first {
+            return true;
+        }
+    }
+    false
 }
 
 /// Whether words may stand behind the first one. Those of judgements and of trees are counted where they are read.
