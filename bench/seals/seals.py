@@ -22,6 +22,7 @@ from values import ACCEPTED, DECLINED, DONE, OPERATE, PULL, STORE, frame, u8, u3
 
 SERVER, CLIENT, SURROGATE = (os.environ[name] for name in ("SERVER", "CLIENT", "SURROGATE"))
 KEY = HERE.parent.parent / "dist" / "key"
+NOBODY = 65534  # another user
 MARK, SEAL = 0xE5, 37  # what stands where a plain frame has its version, and how many bytes a seal has
 TO_SERVER, TO_SURROGATE, BACK = b"\1", b"\2", b"\3"
 PATIENCE = 300  # seconds for a session
@@ -366,12 +367,13 @@ def play_strangers(stack):
 
 
 def play_starts(stack):
-    """What a program says and ends with where a variable leads to no keys, and where a surrogate without keys may listen."""
+    """What a program says and ends with where a variable leads to no keys (as root also to another user's), and where a surrogate without
+    keys may listen."""
     scene = Scene(stack, "starts")
-    names = {name: scene.folder / name for name in ("good", "empty", "shared", "odd")}
+    names = {name: scene.folder / name for name in ("good", "empty", "shared", "odd", "foreign")}
     for folder in names.values():
         folder.mkdir(mode=0o700)
-    for name in ("good", "shared", "odd"):
+    for name in ("good", "shared", "odd", "foreign"):
         subprocess.run([KEY, names[name] / "1.key"], check=True)
     (names["shared"] / "1.key").chmod(0o640)
     (names["odd"] / "1.key").write_text("odd\n")
@@ -380,6 +382,9 @@ def play_starts(stack):
         "shared": (names["shared"] / "1.key", "others than its owner may read it"),
         "odd": (names["odd"] / "1.key", "it is no key of 64 hexadecimal digits and a line end"),
     }
+    if os.geteuid() == 0:
+        os.chown(names["foreign"] / "1.key", NOBODY, -1)
+        whys["foreign"] = (names["foreign"] / "1.key", "it belongs to another user")
     for name, (place, why) in whys.items():
         for node in ("server", "surrogate"):
             ended(scene, node, "127.0.0.1:0", {"HAURPIKO_KEYS": str(names[name])}, f"{node}: no keys: {place}: {why}")
