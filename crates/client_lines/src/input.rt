@@ -8,16 +8,13 @@ ghost use Rattle.client_lines.specs.Input.{Reading, ReadsPiece};
 ghost use Rattle.client_lines.specs.Limits.{max_input};
 ghost use Rattle.client_lines.specs.InsideRun.{end_by_count};
 
-use outside::Source;
+use outside::{INPUT_PIECE, Source};
 use shell_lang::LineBuffer;
 use std::alloc::{AllocError, Global};
 use std::marker::Model;
 
 /// The most bytes of an input that are cut into lines.
 pub const MAX_INPUT: usize = 16_777_216;
-
-/// How many bytes are read at once.
-const PIECE: usize = 65_536;
 
 /// How reading an input ended.
 #[derive(Clone, Copy, Debug, PartialEq, Eq)]
@@ -77,8 +74,8 @@ impl LineReader {
         ensures failed { result ≡ Ok (Some InputEnd.Failed) → self.new ≡ self.old }
         ensures cause { RisesWhere (result ≡ Ok (Some InputEnd.Failed)) (I.faults input.old) (I.faults input.new) }
     {
-        let mut chunk = [0; PIECE];
-        let room = (MAX_INPUT + 1 - self.count).min(PIECE);
+        let mut chunk = [0; INPUT_PIECE];
+        let room = (MAX_INPUT + 1 - self.count).min(INPUT_PIECE);
         let buf = &mut chunk[..room];
         let count = match input.read(buf) {
             Ok(0) => return Ok(Some(InputEnd::Read)),

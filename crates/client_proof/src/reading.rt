@@ -5,11 +5,8 @@ ghost use Rattle.client_lines.specs.Limits.{max_input};
 ghost use Rattle.client_proof.specs.Inside.{AddsPiece, AddsWithin, ReadsAll, ReadsWithin};
 
 use client_lines::{InputEnd, MAX_INPUT};
-use outside::Source;
+use outside::{INPUT_PIECE, Source};
 use std::alloc::AllocError;
-
-/// How many bytes are read at once.
-const PIECE: usize = 65_536;
 
 /// Reads an input to its end, or to the first byte past the limit, and says how it ended. The bytes are those of the whole
 /// input where it was read to its end.
@@ -44,8 +41,8 @@ fn read_piece<I: Source>(input: &mut I, bytes: &mut Vec<u8>) -> Result<Option<In
     ensures err { OnErr result (ReadsWithin (I.left input.old) (I.left input.new) (length bytes.old.items)) }
     ensures cause { RisesWhere (result ≡ Ok (Some InputEnd.Failed)) (I.faults input.old) (I.faults input.new) }
 {
-    let mut chunk = [0; PIECE];
-    let room = (MAX_INPUT + 1 - bytes.len()).min(PIECE);
+    let mut chunk = [0; INPUT_PIECE];
+    let room = (MAX_INPUT + 1 - bytes.len()).min(INPUT_PIECE);
     let buf = &mut chunk[..room];
     let count = match input.read(buf) {
         Ok(0) => return Ok(Some(InputEnd::Read)),

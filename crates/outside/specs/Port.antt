@@ -3,6 +3,10 @@ use Rattle.std.specs.Prelude.{◌≡◌, ℕ, List, [], ◌∷◌, ◌++◌, Opt
 use Rattle.std.specs.declared.alloc.Global.{Global}
 use Rattle.outside.specs.Outside.{Told}
 
+-- the most connections that a port takes, and that a run serves
+abbrev pub most_connections : ℕ
+most_connections = 65536
+
 -- a frame that was taken, and the answer that its connection was given
 pub record Talk : Type 0 where
   pub frame : List ℕ

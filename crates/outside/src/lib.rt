@@ -7,6 +7,7 @@
 mod calls;
 mod errors;
 mod keeper;
+mod laws;
 mod memory;
 mod memory_keeper;
 mod memory_port;
@@ -16,9 +17,10 @@ mod source;
 
 pub use errors::{Failed, KeepError, PortError, SinkError};
 pub use keeper::Keeper;
+pub use laws::limits_agree;
 pub use memory::{MemSink, MemSource};
 pub use memory_keeper::{KeepFail, MemKeeper};
 pub use memory_port::MemPort;
-pub use port::Port;
+pub use port::{MOST_CONNECTIONS, Port};
 pub use sink::{Sink, write_all};
-pub use source::Source;
+pub use source::{INPUT_PIECE, Source};

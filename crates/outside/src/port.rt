@@ -5,6 +5,9 @@ ghost use Rattle.outside.specs.Port.{PortTelling, AddsTalks, talks_begun, Answer
 
 use crate::PortError;
 
+/// The most connections that a port takes, and that a run serves.
+pub const MOST_CONNECTIONS: u32 = 65_536;
+
 /// Connections that come in one after the other, each with one frame, and each to be answered by one.
 pub trait Port {
     /// What the port tells of itself.

@@ -4,6 +4,9 @@ ghost use Rattle.outside.specs.Outside.{Told, Reads, CountsFault};
 
 use crate::Failed;
 
+/// How many bytes of an input are read at once.
+pub const INPUT_PIECE: usize = 65_536;
+
 /// Bytes that come in.
 pub trait Source {
     /// The bytes that are left, where the source tells them.

@@ -1,7 +1,6 @@
 // One connection of a port: its frame, and the answer to it.
 ghost use Rattle.std.specs.Prelude.{◌≡◌, ◌<◌, ◌+◌, List, ℕ, [], ◌∷◌, IfOk, OnErr};
-ghost use Rattle.port_serving.specs.Words.{most_connections};
-ghost use Rattle.outside.specs.Port.{PortTelling};
+ghost use Rattle.outside.specs.Port.{PortTelling, most_connections};
 ghost use Rattle.port_serving.specs.Serving.{IsAtHand, TakesConnection, Replies, tallied};
 
 use outside::{Port, PortError};

@@ -1,4 +1,3 @@
-pub mod Port
 pub mod Held
 pub mod Inside
 pub mod Outgoing

@@ -1,21 +1,17 @@
 // Connections over TCP.
 ghost use Rattle.std.specs.Prelude.{◌≡◌, ◌-◌, ◌↔◌, None, Ok, Err, IfOk, OnErr};
 ghost use Rattle.outside.specs.Outside.{Told, CountsFault};
-ghost use Rattle.outside.specs.Port.{AddsTalks, talks_begun, AnswersLast};
-ghost use Rattle.real_edge.specs.Port.{connections};
+ghost use Rattle.outside.specs.Port.{AddsTalks, talks_begun, AnswersLast, most_connections};
 
 use crate::connections::Connections;
 use crate::faults::count_fault;
 use crate::logged_port::PeerPort;
-use outside::{Port, PortError};
+use outside::{MOST_CONNECTIONS, Port, PortError};
 use sealed_frames::SealError;
 use std::alloc::Global;
 use std::io;
 use std::net::{Net, SocketAddr};
 use std::time::Clock;
-
-/// How many connections a port takes.
-const CONNECTIONS: u32 = 65_536;
 
 /// Takes connections over TCP, each with one frame and its answer. The frames of many come in side by side, and their answers go
 /// out so: the first one that is whole is taken first, and no peer is waited for while another one is there.
@@ -35,12 +31,12 @@ impl<'a, N: Net + Clock> TcpPort<'a, N> {
     ///
     /// The platform's, where the address is of no form or in use.
     pub fn bind(alloc: Global, net: &'a N, address: &'a str) -> io::Result<TcpPort<'a, N>>
-        ensures { IfOk result (λ port. (port.left ≡ connections) × (port.faults ≡ 0) × (port.address.now ≡ address.now)) }
+        ensures { IfOk result (λ port. (port.left ≡ most_connections) × (port.faults ≡ 0) × (port.address.now ≡ address.now)) }
     {
         Ok(TcpPort {
             connections: Connections::listen(alloc, net, address)?,
             address,
-            left: CONNECTIONS,
+            left: MOST_CONNECTIONS,
             faults: 0,
         })
     }

@@ -4,7 +4,8 @@ use Rattle.std.specs.Prelude.{if◌then◌else◌, nat_lt, codes}
 use Rattle.std.specs.Str.{bytes_eq}
 use Rattle.file_paths.specs.Path.{FilePath, path_of}
 use Rattle.file_paths.specs.declared.path.PathError.{PathError}
-use Rattle.port_serving.specs.Words.{count_of, most_connections}
+use Rattle.outside.specs.Port.{most_connections}
+use Rattle.port_serving.specs.Words.{count_of}
 use Rattle.server_prog.specs.declared.words.RunWords.{RunWords}
 use Rattle.server_prog.specs.declared.words.Form.{Form}
 use Rattle.server_prog.specs.declared.words.Form.TheVariants as forms

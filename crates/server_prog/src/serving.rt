@@ -1,8 +1,8 @@
 // Serving the connections of a port, and keeping the server.
 ghost use Rattle.std.specs.Prelude.{◌≤◌, IfOk, OnErr};
-ghost use Rattle.port_serving.specs.Words.{most_connections};
 ghost use Rattle.outside.specs.Outside.{CountsFault};
 ghost use Rattle.outside.specs.Keeper.{kept_under};
+ghost use Rattle.outside.specs.Port.{most_connections};
 ghost use Rattle.server_core.specs.Holding.{served};
 ghost use Rattle.server_prog.specs.Serving.{server_telling};
 ghost use Rattle.server_prog.specs.Inside.{Journals, ServesNext, BreaksConnection, ServesAll, ServesFront};

@@ -1,7 +1,7 @@
 // A server's words.
 ghost use Rattle.std.specs.Prelude.{◌≡◌, ◌≤◌, [], ◌∷◌, IfSome, MatchOption, None, Some, map};
 ghost use Rattle.std.specs.String.{string_bytes};
-ghost use Rattle.port_serving.specs.Words.{most_connections};
+ghost use Rattle.outside.specs.Port.{most_connections};
 ghost use Rattle.server_prog.specs.Words.{server_run_of, is_server_run, is_root_word, is_prove_word, run_said, form_of, HasForm};
 
 use port_serving::connection_count;

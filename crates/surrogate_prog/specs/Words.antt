@@ -1,7 +1,8 @@
 -- The words behind the program's name.
 use Rattle.std.specs.Prelude.{◌≡◌, ◌≤◌, ℕ, Bool, ◌&&◌, List, [], ◌∷◌, length, Option, None, Some, option_map, if◌then◌else◌, nat_lt, codes}
 use Rattle.std.specs.Str.{bytes_eq}
-use Rattle.port_serving.specs.Words.{count_of, most_connections}
+use Rattle.outside.specs.Port.{most_connections}
+use Rattle.port_serving.specs.Words.{count_of}
 use Rattle.surrogate_prog.specs.declared.words.RunWords.{RunWords}
 use Rattle.surrogate_prog.specs.declared.words.Form.{Form}
 use Rattle.surrogate_prog.specs.declared.words.Form.TheVariants as forms

@@ -2,7 +2,7 @@
 ghost use Rattle.std.specs.Prelude.{◌≡◌, ◌≤◌, IsTrue, map};
 ghost use Rattle.std.specs.String.{string_bytes};
 ghost use Rattle.outside.specs.Outside.{CountsFault};
-ghost use Rattle.port_serving.specs.Words.{most_connections};
+ghost use Rattle.outside.specs.Port.{most_connections};
 ghost use Rattle.surrogate_prog.specs.Words.{run_said};
 ghost use Rattle.surrogate_prog.specs.Serving.{outside_told};
 ghost use Rattle.surrogate_prog.specs.Run.{surrogate_status_of, is_surrogate_status, surrogate_telling, SurrogateRun};

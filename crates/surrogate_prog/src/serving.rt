@@ -1,6 +1,6 @@
 // Serving the connections of a port as a surrogate.
 ghost use Rattle.std.specs.Prelude.{◌≡◌, ◌≤◌, IfOk, OnErr};
-ghost use Rattle.port_serving.specs.Words.{most_connections};
+ghost use Rattle.outside.specs.Port.{most_connections};
 ghost use Rattle.wire_frames.specs.Frame.{IsValid, frame};
 ghost use Rattle.surrogate_core.specs.Handling.{Idle};
 ghost use Rattle.surrogate_prog.specs.Serving.{outside_told};
