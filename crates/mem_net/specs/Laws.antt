@@ -2,7 +2,7 @@
 use Rattle.std.specs.Prelude.{◌≡◌, ◌≢◌, ℕ, ◌≤◌, true, List, Vec, Result, Err}
 use Rattle.std.specs.declared.alloc.Global.{Global}
 use Rattle.wire_frames.specs.declared.message.Message.{Message}
-use Rattle.wire_frames.specs.declared.message.TheConstants.{CLIENTS}
+use Rattle.wire_frames.specs.Limits.{max_client}
 use Rattle.mod_log.specs.Log.{new_log}
 use Rattle.world_rules.specs.declared.asking.Peer.{Peer}
 use Rattle.world_rules.specs.declared.asking.Answer.TheVariants.{Failed}
@@ -18,7 +18,7 @@ use Rattle.mem_net.specs.Scenes.{Scene, IsMet, with_world, with_troubles}
 -- A client's new log is in step with the world of a network whose server has taken nothing of the client.
 abbrev pub NewNetworksAreInStep : Type 0
 NewNetworksAreInStep = (client : ℕ) (opening : Served)
-    → 1 ≤ client → client ≤ CLIENTS → IsServed opening → opening.last client ≡ 0
+    → 1 ≤ client → client ≤ max_client → IsServed opening → opening.last client ≡ 0
     → InStep client new_log (new_world client opening)
 
 -- Unless memory runs out, an ask of a network whose first fate is a stop fails, and counts a trouble. It is noted as sent and failed, and

@@ -32,7 +32,7 @@ impl<R> Model for MemNet<R> {
 
 impl<R: Drop> MemNet<R> {
     ghost use Rattle.std.specs.Prelude.{◌≤◌, IfOk};
-    ghost use Rattle.wire_frames.specs.declared.message.TheConstants.{CLIENTS};
+    ghost use Rattle.wire_frames.specs.Limits.{max_client};
     ghost use Rattle.world_rules.specs.Served.{IsServed};
     ghost use Rattle.server_core.specs.Holding.{served};
     ghost use Rattle.surrogate_core.specs.Handling.{Idle};
@@ -50,7 +50,7 @@ impl<R: Drop> MemNet<R> {
         fates: Vec<Fate>,
     ) -> Result<MemNet<R>, AllocError>
         requires low { 1 ≤ client }
-        requires high { client ≤ CLIENTS }
+        requires high { client ≤ max_client }
         requires idle { surrogate.phase ≡ Idle }
         ensures world { IfOk result (λ net. world_of net.wires ≡ new_world client (served server)) }
         ensures server { IfOk result (λ net. net.wires.server ≡ server) }

@@ -53,7 +53,7 @@ impl Wires {
     ghost use Rattle.std.specs.Prelude.{Ok, IfOk, IfErr, IfSome, IfNone, OnOk, OnErr};
     ghost use Rattle.std.specs.Option.{option_copied};
     ghost use Rattle.tree_values.specs.Lists.{IsIn};
-    ghost use Rattle.wire_frames.specs.declared.message.TheConstants.{CLIENTS};
+    ghost use Rattle.wire_frames.specs.Limits.{max_client};
     ghost use Rattle.wire_frames.specs.declared.message.Message.{Message};
     ghost use Rattle.wire_frames.specs.Frame.{IsValid, Spells, Echoes, client_of, frame};
     ghost use Rattle.wire_frames.specs.Reading.{frame_of};
@@ -76,7 +76,7 @@ impl Wires {
         fates: Vec<Fate>,
     ) -> Result<Wires, AllocError>
         requires low { 1 ≤ client }
-        requires high { client ≤ CLIENTS }
+        requires high { client ≤ max_client }
         ensures world { IfOk result (λ net. world_of net ≡ new_world client (served server)) }
         ensures server { IfOk result (λ net. net.server ≡ server) }
         ensures fates { IfOk result (λ net. net.fates ≡ fates.items) }

@@ -6,7 +6,7 @@ ghost use Rattle.std.specs.List.{AllByRecursion};
 ghost use Rattle.tree_values.specs.Effects.{first_conflict as conflict_in, apply_all as applied_all};
 ghost use Rattle.tree_values.specs.Tree.{IsLegalEffect};
 ghost use Rattle.vol_tree.specs.Undos.{CanUndoAll};
-ghost use Rattle.wire_frames.specs.declared.message.TheConstants.{CLIENTS};
+ghost use Rattle.wire_frames.specs.Limits.{max_client};
 ghost use Rattle.wire_frames.specs.Frame.{IsValid, frame};
 ghost use Rattle.world_rules.specs.Served.{IsServed, new_served, answer, state_after, taken_of, with_last};
 ghost use Rattle.world_rules.specs.Served.{Repeated, Early, Outdated, Refused, verdict, served_after, served_through, taken_through};
@@ -87,7 +87,7 @@ impl Server {
     /// The number of the client's last accepted entry; 0 where there is none.
     pub fn last(&self, client: u8) -> u64
         requires low { 1 ≤ client }
-        requires high { client ≤ CLIENTS }
+        requires high { client ≤ max_client }
         ensures last { result ≡ (served self.now).last client }
         ensures legal { IsServed (served self.now) }
     {
@@ -361,7 +361,7 @@ impl Server {
     /// What becomes of an entry of this number. Where it is taken its effects are applied, and can be undone.
     fn look(&mut self, client: u8, number: u64, entry: &Part) -> Result<Looked, AllocError>
         requires low { 1 ≤ client }
-        requires high { client ≤ CLIENTS }
+        requires high { client ≤ max_client }
         requires some { 1 ≤ number }
         requires legal { AllByRecursion IsLegalEffect entry.now.effects }
         ensures ok { IfOk result (IsLookedAs (verdict client number entry.now.effects entry.now.base (served self.old))) }
@@ -390,7 +390,7 @@ impl Server {
     /// Applies the effects of the client's next entry, whose base is current.
     fn take(&mut self, client: u8, number: u64, effects: &Effects) -> Result<Looked, AllocError>
         requires low { 1 ≤ client }
-        requires high { client ≤ CLIENTS }
+        requires high { client ≤ max_client }
         requires legal { AllByRecursion IsLegalEffect effects.now }
         ensures ok { IfOk result (IsTakenAs (applied_all 0 effects.now (served self.old).volume)) }
         ensures state { OnOk result (served self.new ≡ served_with client number
@@ -412,7 +412,7 @@ impl Server {
     /// Takes an entry of the client back that was taken, after which its last number is the given one again. It takes no memory.
     fn take_back(&mut self, client: u8, last: u64, undos: Vec<Undo>)
         requires low { 1 ≤ client }
-        requires high { client ≤ CLIENTS }
+        requires high { client ≤ max_client }
         requires undo { CanUndoAll undos.items self.old.rows }
         requires legal { IsServed (served (store_undone client last undos.items self.old)) }
         ensures held { self.new ≡ store_undone client last undos.items self.old }

@@ -10,17 +10,26 @@ use Rattle.mod_log.specs.declared.log.Entry.{Entry}
 use Rattle.mod_log.specs.declared.sketching.SketchEntry.{SketchEntry}
 use Rattle.mod_log.specs.Origin.{MadeByFits}
 use Rattle.mod_log.specs.Sketched.{AllFill, IsSketchOf}
+use Rattle.wire_frames.specs.declared.message.TheConstants.{MAX_FRAME, CLIENTS}
+use Rattle.wire_frames.specs.declared.parts.TheConstants.{MAX_PARTS}
 use Rattle.wire_frames.specs.declared.message.Message.{Message}
 use Rattle.wire_frames.specs.declared.message.Message.TheVariants as messages
 use Rattle.wire_frames.specs.declared.message.Kind.{Kind}
 use Rattle.wire_frames.specs.declared.message.Kind.TheVariants.{Store, Operate, Pull, Accepted, Stale, Unfit, Gap, Snapshot, Done, Declined}
 use Rattle.wire_frames.specs.declared.message.Kind.TheVariants.{Full}
 use Rattle.wire_frames.specs.declared.message.FrameError.TheVariants.{BadLength, BadVersion, BadKind, BadClient, BadField, Trailing}
+use Rattle.wire_frames.specs.Limits.{max_frame, max_parts, max_client}
 use Rattle.wire_frames.specs.Frame.{frame_version, kind, client_of, number_of, code_of, client_rule, frame, IsValid}
 use Rattle.wire_frames.specs.Frame.{entry_count, speaks_upto, Echoes}
 use Rattle.wire_frames.specs.Parts.{part_of}
 use Rattle.wire_frames.specs.Fields.{message_fields}
 use Rattle.wire_frames.specs.Reading.{is_sized, frame_of}
+
+-- the limits of the code are those of these definitions
+pub record LimitsAgree : Type 0 where
+  pub frames_are : MAX_FRAME ≡ max_frame
+  pub parts_are : MAX_PARTS ≡ max_parts
+  pub clients_are : CLIENTS ≡ max_client
 
 -- the bytes are as long as they say, and of this version
 pub record HasVersion (bytes : List ℕ) : Type 0 where

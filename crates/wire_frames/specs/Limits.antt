@@ -9,6 +9,6 @@ max_frame = 67108864
 abbrev pub max_parts : ℕ
 max_parts = 8
 
--- the number of a client
+-- the highest number of a client
 abbrev pub max_client : ℕ
 max_client = 64

@@ -12,7 +12,12 @@ ghost use Rattle.wire_frames.specs.Cause.{cause, CauseFits, cause_at};
 ghost use Rattle.wire_frames.specs.Broken.{BrokenNumbers, BrokenBodies, BrokenCauses, LeftBytes};
 ghost use Rattle.wire_frames.specs.Laws.{FilledStoresAreValid, SketchedStoresAreValid, LengthIsFirst, VersionIsSecond, KindIsThird};
 ghost use Rattle.wire_frames.specs.Laws.{ClientIsFourth, FieldsAreBehindTheClient, MessagesStandBeforeWhatIsLeft};
-ghost use Rattle.wire_frames.specs.Laws.{CutFramesNameTheField, KindsDecideReplies};
+ghost use Rattle.wire_frames.specs.Laws.{LimitsAgree, CutFramesNameTheField, KindsDecideReplies};
+
+/// States that the limits of the code are those of the definitions.
+pub fn limits_agree()
+    ensures { LimitsAgree }
+{}
 
 /// States that, whatever follows it, a frame is the frame of one message, that no frame is longer than the most, and
 /// that frames are bytes.

@@ -21,7 +21,7 @@ pub use cause::Cause;
 pub use head::{Head, head_of};
 pub use laws::{
     broken_rules_name_their_field, causes_are_spelled_once, faults_are_spelled_once,
-    frames_are_apart, kinds_decide_replies, operations_stand_for_stores,
+    frames_are_apart, kinds_decide_replies, limits_agree, operations_stand_for_stores,
     refusals_name_the_first_fault,
 };
 pub use lengths::{operation_size, store_size};
