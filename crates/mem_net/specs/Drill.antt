@@ -11,12 +11,12 @@ use Rattle.cmd_capture.specs.declared.job.RawRow.{RawRow}
 use Rattle.cmd_capture.specs.declared.job.Outcome.{Outcome}
 use Rattle.cmd_capture.specs.declared.runner.Run.{Run}
 use Rattle.cmd_capture.specs.Runs.{raw_row, unchanged}
-use Rattle.mem_net.specs.declared.drill.TheConstants.{MAX_JOB}
+use Rattle.mem_net.specs.Limits.{max_job}
 
 -- ---- the jobs of a drill
 
 abbrev pub number_in : Bool → List (List ℕ) → Option ℕ
-number_in true (word ∷ []) = printed_number 1 MAX_JOB word
+number_in true (word ∷ []) = printed_number 1 max_job word
 number_in named args = None
 
 -- the number of a job of a drill: its command is `/bin/job` with that number alone

@@ -4,3 +4,4 @@ pub mod Laws
 pub mod Lying
 pub mod Drill
 pub mod Handed
+pub mod Limits

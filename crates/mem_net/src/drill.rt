@@ -5,7 +5,7 @@ ghost use Rattle.outside.specs.Memory.{one_more};
 ghost use Rattle.outside.specs.Outside.{raised};
 ghost use Rattle.cmd_capture.specs.Runs.{raw_row, unchanged};
 ghost use Rattle.mem_net.specs.Drill.{number_of_job, drilled, rows_with_out, drilled_status, is_e, out_of, changed_bytes};
-ghost use Rattle.mem_net.specs.declared.drill.TheConstants.{MAX_JOB};
+ghost use Rattle.mem_net.specs.Limits.{max_job};
 
 use cmd_capture::{Job, JobRow, Outcome, RawRow, RawRows, Run, RunError, Runner};
 use program_words::printed_number;
@@ -133,7 +133,7 @@ fn run_of(alloc: Global, work: &[u8], job: &Job, outcome: &Outcome) -> Result<Ru
 #[tactic(auto, using(crate::proofs::Numbering::unprinted))]
 fn number_of(job: &Job) -> Option<u32>
     ensures number { result ≡ number_of_job job.now }
-    ensures few { IfSome result (λ number. number ≤ MAX_JOB) }
+    ensures few { IfSome result (λ number. number ≤ max_job) }
 {
     if job.command.program.bytes() != b"/bin/job".as_slice() {
         return None;
@@ -180,7 +180,7 @@ fn status_of(far: bool, number: u32) -> u8
 
 /// The job's row `e`, and the file `e/out` behind it.
 fn with_out(alloc: Global, far: bool, number: u32, job: &Job) -> Result<RawRows, AllocError>
-    requires { number ≤ MAX_JOB }
+    requires { number ≤ max_job }
     ensures { IfOk result (λ rows. rows ≡ rows_with_out far number job.now) }
 {
     let mut rows = folder_of(alloc, job)?;
@@ -224,7 +224,7 @@ fn is_e(row: &JobRow) -> bool
 
 /// The bytes of the file that a job of this number leaves.
 fn out_of(alloc: Global, far: bool, number: u32) -> Result<Vec<u8>, AllocError>
-    requires { number ≤ MAX_JOB }
+    requires { number ≤ max_job }
     ensures { IfOk result (λ bytes. bytes.items ≡ out_of far number) }
 {
     let changed = if far { changed(number) } else { 0 };

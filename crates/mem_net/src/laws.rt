@@ -1,6 +1,14 @@
 // How a network in memory begins, and what one that is handed on keeps, as contracts of calls that do nothing.
+ghost use Rattle.std.specs.Prelude.{◌≡◌};
 ghost use Rattle.mem_net.specs.Handed.{FewAsksFailInARow};
 ghost use Rattle.mem_net.specs.Laws.{NewNetworksAreInStep, StopsStay};
+ghost use Rattle.mem_net.specs.Limits.{max_job};
+ghost use Rattle.mem_net.specs.declared.drill.TheConstants.{MAX_JOB};
+
+/// The limit of the code is that of the definitions.
+pub fn limits_agree()
+    ensures { MAX_JOB ≡ max_job }
+{}
 
 /// A client's new log is in step with a network that was just made, where its server has taken nothing of the client.
 pub fn new_networks_are_in_step()

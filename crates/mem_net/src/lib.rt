@@ -12,7 +12,7 @@ mod parts;
 
 pub use drill::{DrillRunner, MAX_JOB};
 pub use handed::Handed;
-pub use laws::{few_asks_fail_in_a_row, new_networks_are_in_step, stops_stay};
+pub use laws::{few_asks_fail_in_a_row, limits_agree, new_networks_are_in_step, stops_stay};
 pub use liar::LiarLink;
 pub use mem_wires::Fate;
 pub use net::MemNet;
