@@ -12,7 +12,7 @@ mod spelling;
 mod spelling_laws;
 mod taking;
 
-pub use laws::{logs_keep_their_trees, sketches_stand_for_contents};
+pub use laws::{logs_keep_their_trees, sketches_stand_for_contents, sketches_stand_for_each_file};
 pub use limits::{MAX_ENTRIES, MAX_LOG};
 pub use log::{Entry, Log, LogError, base_of};
 pub use origin::{Origin, take_made_by};
