@@ -12,7 +12,7 @@ use Rattle.mod_log.specs.declared.sketching.SketchEntry.{SketchEntry}
 use Rattle.mod_log.specs.Log.{Log, tree_at, IsLog}
 use Rattle.mod_log.specs.Sketched.{IsSketchOf, WritesContent}
 use Rattle.rs_parity.specs.Sketches.{Distinct}
-use Rattle.wire_frames.specs.Limits.{max_parts}
+use Rattle.wire_frames.specs.Limits.{max_parts, max_client}
 use Rattle.wire_frames.specs.declared.parts.Part.{Part}
 use Rattle.wire_frames.specs.Parts.{part_of, effects_count, contents_count, PartsFit}
 use Rattle.wire_frames.specs.declared.message.Message.{Message}
@@ -82,7 +82,7 @@ IsFitting log last volume (Malformed code offset) = Unit {0}
 -- a client's log is in step with the world about it
 pub record InStep (client : ℕ) (log : Log) (world : World) : Type 0 where
   pub about : world.client ≡ client
-  pub own_number : (1 ≤ client) × (client ≤ 64)
+  pub own_number : (1 ≤ client) × (client ≤ max_client)
   -- the server took every acknowledged entry, and at most those of one store more
   pub not_lower : log.acked ≤ world.served.last client
   pub not_higher : IsTakenUpTo log (world.served.last client)

@@ -8,6 +8,7 @@ use Rattle.mod_log.specs.declared.log.Entry.{Entry}
 use Rattle.mod_log.specs.declared.sketching.SketchEntry.{SketchEntry}
 use Rattle.mod_log.specs.Log.{Log, tree_at, IsLog, new_log}
 use Rattle.mod_log.specs.Sketched.{IsSketchOf}
+use Rattle.wire_frames.specs.Limits.{max_client}
 use Rattle.wire_frames.specs.declared.message.Message.{Message}
 use Rattle.wire_frames.specs.declared.message.Message.TheVariants.{Store, Operate, Pull, Accepted, Stale, Gap, Snapshot, Done}
 use Rattle.wire_frames.specs.Parts.{part_of}
@@ -43,7 +44,8 @@ RestartsStayInStep = (client : ℕ) (state : State) → AreInStep client state �
 -- A new client is in step with each served state that took nothing of it, where no message of it was sent.
 abbrev pub NewClientsAreInStep : Type 0
 NewClientsAreInStep =
-    (client : ℕ) (world : World) → world.client ≡ client → 1 ≤ client → client ≤ 64 → IsServed world.served → world.served.last client ≡ 0
+    (client : ℕ) (world : World) → world.client ≡ client → 1 ≤ client → client ≤ max_client → IsServed world.served
+    → world.served.last client ≡ 0
     → ((message : Message) → IsIn message world.packets → (client_of message ≢ client) × IsValid message)
     → InStep client new_log world
 
@@ -73,17 +75,17 @@ PendingFrontsMayBeSent = (client : ℕ) (ships : Bool) (log : Log) (front left :
 
 -- What the client may send is valid.
 abbrev pub SendingsAreValid : Type 0
-SendingsAreValid = (client : ℕ) (ships : Bool) (log : Log) (message : Message) → 1 ≤ client → client ≤ 64 → IsLog log
+SendingsAreValid = (client : ℕ) (ships : Bool) (log : Log) (message : Message) → 1 ≤ client → client ≤ max_client → IsLog log
     → MaySend client ships log message → IsValid message
 
 -- The store of each pending entry alone is a valid message.
 abbrev pub PendingStoresAreValid : Type 0
-PendingStoresAreValid = (client : ℕ) → 1 ≤ client → client ≤ 64 → (log : Log) (entry : Entry) → IsLog log → IsIn entry log.pending
+PendingStoresAreValid = (client : ℕ) → 1 ≤ client → client ≤ max_client → (log : Log) (entry : Entry) → IsLog log → IsIn entry log.pending
     → IsValid (Store client entry.seq (part_of entry.effects entry.base ∷ []))
 
 -- And so is the operation of each that a command made.
 abbrev pub PendingOperationsAreValid : Type 0
-PendingOperationsAreValid = (client : ℕ) → 1 ≤ client → client ≤ 64 → (log : Log) (entry : Entry) (sketched : SketchEntry)
+PendingOperationsAreValid = (client : ℕ) → 1 ≤ client → client ≤ max_client → (log : Log) (entry : Entry) (sketched : SketchEntry)
     → IsLog log → IsIn entry log.pending → IsSketchOf entry sketched
     → IsValid (Operate client sketched)
 

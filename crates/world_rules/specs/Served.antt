@@ -7,6 +7,7 @@ use Rattle.tree_values.specs.declared.node.Effect.{Effect}
 use Rattle.tree_values.specs.declared.node.Base.{Base}
 use Rattle.tree_values.specs.declared.node.TreeError.{TreeError}
 use Rattle.tree_values.specs.declared.node.TreeError.TheVariants.{RowsFull, TreeFull}
+use Rattle.wire_frames.specs.Limits.{max_client}
 use Rattle.wire_frames.specs.declared.parts.Part.{Part}
 use Rattle.wire_frames.specs.declared.message.Message.{Message}
 use Rattle.wire_frames.specs.declared.message.Message.TheVariants.{Store, Pull, Accepted, Stale, Unfit, Gap, Snapshot, Full, Malformed}
@@ -16,12 +17,12 @@ pub record Served : Type 0 where
   pub volume : Volume
   pub last : ℕ → ℕ
 
--- the volume is a tree, the numbers have 64 bits, and only clients 1 to 64 have any
+-- the volume is a tree, the numbers have 64 bits, and no client above the highest number has any
 pub record IsServed (served : Served) : Type 0 where
   pub tree : IsTree served.volume
   pub small : (client : ℕ) → served.last client < 2 ^ 64
   pub of_none : served.last 0 ≡ 0
-  pub of_no_others : (client : ℕ) → 64 < client → served.last client ≡ 0
+  pub of_no_others : (client : ℕ) → max_client < client → served.last client ≡ 0
 
 -- the volume without rows, of which no client has written
 abbrev pub new_served : Served
