@@ -6,6 +6,7 @@ use Rattle.tree_values.specs.Tree.{Volume, IsTree}
 use Rattle.mod_log.specs.Log.{Log, acknowledged, pulled}
 use Rattle.wire_frames.specs.declared.message.Message.{Message}
 use Rattle.wire_frames.specs.Frame.{IsValid, number_of}
+use Rattle.world_rules.specs.Settling.{max_asks}
 use Rattle.store_image.specs.Spelling.{client as image}
 use Rattle.client_core.specs.declared.syncing.SyncEnd.{SyncEnd}
 use Rattle.client_core.specs.declared.syncing.SyncEnd.TheVariants.{Synced, Unanswered, KeepFault, Memory}
@@ -33,7 +34,7 @@ RestsOnReply after end = (after.pending ≢ [])
 abbrev pub HasSyncCause : SyncEnd → Log → ℕ → ℕ → ℕ → ℕ → Type 0
 HasSyncCause (Synced number) after troubles now faults faults_now = (after.pending ≡ []) × (number ≡ after.acked)
 HasSyncCause (Unanswered number) after troubles now faults faults_now =
-    (after.pending ≢ []) × (number ≡ after.acked + 1) × RoseBy 8 troubles now
+    (after.pending ≢ []) × (number ≡ after.acked + 1) × RoseBy max_asks troubles now
 HasSyncCause KeepFault after troubles now faults faults_now = Rose faults faults_now
 HasSyncCause Memory after troubles now faults faults_now = Unit {0}
 HasSyncCause end after troubles now faults faults_now = RestsOnReply after end
@@ -65,7 +66,8 @@ TakesRows before after = (last : ℕ) × (seen : Volume) × (count : ℕ) × IsT
 abbrev pub HasPullCause : PullEnd → Log → Log → ℕ → ℕ → ℕ → ℕ → Type 0
 HasPullCause (pulls.Pending count) before after troubles now faults faults_now =
     (before.pending ≢ []) × (count ≡ length before.pending) × (after ≡ before)
-HasPullCause pulls.Unanswered before after troubles now faults faults_now = (before.pending ≡ []) × (after ≡ before) × RoseBy 8 troubles now
+HasPullCause pulls.Unanswered before after troubles now faults faults_now =
+    (before.pending ≡ []) × (after ≡ before) × RoseBy max_asks troubles now
 HasPullCause pulls.KeepFault before after troubles now faults faults_now =
     (before.pending ≡ []) × TakesRows before after × Rose faults faults_now
 HasPullCause pulls.Memory before after troubles now faults faults_now = (before.pending ≡ []) × ((after ≡ before) ⊎ TakesRows before after)

@@ -12,7 +12,7 @@ use Rattle.world_rules.specs.declared.asking.Peer.TheVariants.{Server, Surrogate
 use Rattle.world_rules.specs.declared.asking.Ask.{Ask}
 use Rattle.world_rules.specs.declared.asking.Answer.TheVariants.{Reply}
 use Rattle.world_rules.specs.Asking.{ask_of}
-use Rattle.world_rules.specs.Settling.{failures}
+use Rattle.world_rules.specs.Settling.{max_asks, failures}
 use Rattle.client_core.specs.declared.route.Route.{Route}
 use Rattle.client_core.specs.declared.syncing.SyncEnd.{SyncEnd}
 use Rattle.client_core.specs.declared.syncing.SyncEnd.TheVariants.{Unanswered}
@@ -23,7 +23,7 @@ use Rattle.client_core.specs.Syncing.{store_of, IsFirst, IsLight, IsWindow, Sync
 abbrev pub WasNotDone : ℕ → List ℕ → SketchEntry → List Ask → Type 0
 WasNotDone client address sketched asks =
     ((cause : Cause) × IsIn (ask_of Surrogate address (Operate client sketched) (Reply (Declined client sketched.seq cause))) asks)
-    ⊎ ((front : List Ask) × (back : List Ask) × (asks ≡ front ++ (failures Surrogate address (Operate client sketched) 8 ++ back)))
+    ⊎ ((front : List Ask) × (back : List Ask) × (asks ≡ front ++ (failures Surrogate address (Operate client sketched) max_asks ++ back)))
 
 -- a store carries the entry of this number
 abbrev pub Carries : ℕ → Message → Type 0
@@ -66,4 +66,4 @@ UnansweredStoresFailed = (client : ℕ) (route : Route) (before after : Log) (nu
     → SyncTurn client route before (Unanswered number) after trace
     → (entry : Entry) × (chosen : List Entry) × (front : List Ask) × IsFirst entry after.pending × (number ≡ entry.seq)
     × IsWindow client route after.pending chosen
-    × (trace.asks ≡ front ++ failures Server route.server (store_of client number chosen) 8)
+    × (trace.asks ≡ front ++ failures Server route.server (store_of client number chosen) max_asks)

@@ -4,7 +4,7 @@ use Rattle.mod_log.specs.Log.{Log, tree_at}
 use Rattle.wire_frames.specs.declared.message.Message.{Message}
 use Rattle.world_rules.specs.declared.asking.Ask.{Ask}
 use Rattle.world_rules.specs.declared.asking.Peer.TheVariants.{Server}
-use Rattle.world_rules.specs.Settling.{failures}
+use Rattle.world_rules.specs.Settling.{max_asks, failures}
 use Rattle.world_rules.specs.Telling.{ToldWorlds}
 use Rattle.world_rules.specs.InStep.{InStep, HasNoCollision}
 use Rattle.world_rules.specs.Served.{TakenEntry}
@@ -18,7 +18,7 @@ use Rattle.client_lines.specs.Headline.{last_taken, Around, Ran}
 
 -- the last eight of these asks are of one request to the server, and failed
 abbrev pub EndInFailures : Route → List Ask → Type 0
-EndInFailures route asks = (front : List Ask) × (request : Message) × (asks ≡ front ++ failures Server route.server request 8)
+EndInFailures route asks = (front : List Ask) × (request : Message) × (asks ≡ front ++ failures Server route.server request max_asks)
 
 -- Where the client's tree after its last taken entry was served when a session began that ended well, all that was taken since is the
 -- client's, no content that was sent is taken for another, and the last eight asks did not fail, the sync that is the last line came

@@ -12,6 +12,7 @@ use Rattle.mod_log.specs.declared.sketching.SketchEntry.{SketchEntry}
 use Rattle.wire_frames.specs.declared.message.Message.TheVariants.{Operate}
 use Rattle.world_rules.specs.declared.asking.Ask.{Ask}
 use Rattle.world_rules.specs.World.{World}
+use Rattle.world_rules.specs.Settling.{max_asks}
 use Rattle.world_rules.specs.Telling.{LinkTelling, ToldWorlds, HadTroubles}
 use Rattle.world_rules.specs.InStep.{ahead, InStep, HasNoCollision, HasNoOperation}
 use Rattle.world_rules.specs.Served.{TakenEntry}
@@ -134,7 +135,7 @@ pub record Ran (client : ℕ) (route : Route) (start : Log) (around around_now :
   -- at most as many lines were answered `not run` as the runner failed in the run
   pub unrun : RoseBy (count_by is_unrun answers) around.runner.faults around_now.runner.faults
   -- each sync and each pull that is answered `unanswered` cost the link eight troubles
-  pub unanswered : HadTroubles (8 * count_by is_unanswered answers) around.link around_now.link
+  pub unanswered : HadTroubles (max_asks * count_by is_unanswered answers) around.link around_now.link
   -- each ask of the session is of the server at its address, or of the surrogate at its address, where there is one
   pub peers : (ask : Ask) → IsIn ask goes.trace.asks → IsOfRoute route ask
   -- of the entries that were pending at the start, or were logged, each store that carries a light one was asked only once the entry's

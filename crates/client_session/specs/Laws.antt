@@ -12,7 +12,7 @@ use Rattle.world_rules.specs.declared.asking.Ask.{Ask}
 use Rattle.world_rules.specs.declared.asking.Answer.TheVariants.{Reply}
 use Rattle.world_rules.specs.declared.asking.Peer.TheVariants.{Server, Surrogate}
 use Rattle.world_rules.specs.Asking.{ask_of}
-use Rattle.world_rules.specs.Settling.{failed_asks}
+use Rattle.world_rules.specs.Settling.{max_asks, failed_asks}
 use Rattle.client_core.specs.declared.route.Route.{Route}
 use Rattle.client_core.specs.Trace.{Trace, followed}
 use Rattle.client_core.specs.Causes.{AcknowledgesSome}
@@ -59,7 +59,7 @@ UnrunLinesAreCounted = (route : Route) (before : SessionState) (lines : List (Re
 abbrev pub UnansweredLinesCostAsks : Type 0
 UnansweredLinesCostAsks = (route : Route) (before : SessionState) (lines : List (Result Line LineError))
     (answers : List (Option LineAnswer)) (after : SessionState) (trace : Trace)
-    → Chain route before lines answers after trace → 8 * count_by is_unanswered answers ≤ failed_asks trace.asks
+    → Chain route before lines answers after trace → max_asks * count_by is_unanswered answers ≤ failed_asks trace.asks
 
 -- Each run, failed ones too, is of a line `run`, and no line has two.
 abbrev pub LinesRunOnce : Type 0

@@ -8,10 +8,7 @@ use mod_log::{Origin, SketchEffect, SketchEntry};
 use std::alloc::Global;
 use std::time::Clock;
 use wire_frames::{Head, Kind, Message, head_of, read};
-use world_rules::Peer;
-
-/// How many asks of a request fail before it is given up.
-const ASKS: u32 = 8;
+use world_rules::{MAX_ASKS, Peer};
 
 /// What came of the command of an entry.
 #[derive(Drop)]
@@ -150,7 +147,7 @@ impl<'a, R: Eprint + Clock + AllocGlobal> ClientTeller<'a, R> {
         let mut unanswered = self.unanswered_of(request);
         unanswered.asks = unanswered.asks.saturating_add(1);
         unanswered.misses.note(Peer::Server, address, missed);
-        if unanswered.asks < ASKS {
+        if unanswered.asks < MAX_ASKS {
             self.unanswered = Some(unanswered);
             return;
         }

@@ -22,7 +22,7 @@ use Rattle.wire_frames.specs.declared.message.Message.TheVariants as messages
 use Rattle.world_rules.specs.declared.asking.Peer.TheVariants.{Server}
 use Rattle.world_rules.specs.declared.asking.Answer.TheVariants.{Reply}
 use Rattle.world_rules.specs.declared.asking.Ask.{Ask}
-use Rattle.world_rules.specs.Settling.{failures, failed_asks}
+use Rattle.world_rules.specs.Settling.{max_asks, failures, failed_asks}
 use Rattle.surrogate_core.specs.Handling.{Reaction, Tries, Handling, BreaksHandling, after_verdict, declining, job_for, job_print}
 use Rattle.surrogate_core.specs.Handling.{refusal_kind, held_by}
 use Rattle.surrogate_core.specs.Serving.{MayAsk}
@@ -121,7 +121,7 @@ CausesDecline sketched copy asks runs (OtherJob logged found) =
     × (logged ≡ sketched.origin.job_print) × (found ≢ logged)
 CausesDecline sketched copy asks runs (NoJob code index) =
     (tried : Volume) × IsPulled asks tried × (job_for tried sketched ≡ Err (NoJob code index))
-CausesDecline sketched copy asks runs NoServer = 8 ≤ failed_asks asks
+CausesDecline sketched copy asks runs NoServer = max_asks ≤ failed_asks asks
 CausesDecline sketched copy asks runs NotRun =
     (runs ≡ []) × ((tried : Volume) × (job : Job) × IsTried copy asks tried × (job_for tried sketched ≡ Ok job))
 CausesDecline sketched copy asks runs (Status logged replayed) =
@@ -151,7 +151,7 @@ DeclinesHaveCauses =
 
 -- eight asks of one request to the server failed, one after the other
 abbrev pub FailedEight : List ℕ → List Ask → Type 0
-FailedEight server asks = (request : Message) × (front back : List Ask) × (asks ≡ front ++ (failures Server server request 8 ++ back))
+FailedEight server asks = (request : Message) × (front back : List Ask) × (asks ≡ front ++ (failures Server server request max_asks ++ back))
 
 -- for want of the server an operation is declined only behind them
 abbrev pub SilencesAreOfOneRequest : Type 0

@@ -16,7 +16,7 @@ use Rattle.wire_frames.specs.Reading.{frame_of}
 use Rattle.world_rules.specs.World.{World, MovedBy, MovedAlone}
 use Rattle.world_rules.specs.declared.asking.Ask.{Ask}
 use Rattle.world_rules.specs.declared.asking.Peer.TheVariants.{Server}
-use Rattle.world_rules.specs.Settling.{failed_asks}
+use Rattle.world_rules.specs.Settling.{max_asks, failed_asks}
 use Rattle.surrogate_prog.specs.Words.{SurrogateInvocation}
 use Rattle.surrogate_prog.specs.Serving.{Doings, AnyAsks, ServesFrames, BreaksServing}
 use Rattle.surrogate_prog.specs.Run.{SurrogateTelling, SurrogateRan}
@@ -86,7 +86,7 @@ SpellAll replies pairs = ⊥
 abbrev pub SilentServersFailedEight : Type 0
 SilentServersFailedEight = (server work : List ℕ) (copy after : Volume) (pairs : List (List ℕ × List ℕ)) (did : Doings)
     → ServesFrames server work copy pairs did after
-    → (replies : List Message) × SpellAll replies pairs × (8 * count_by is_silent replies ≤ failed_asks did.asks)
+    → (replies : List Message) × SpellAll replies pairs × (max_asks * count_by is_silent replies ≤ failed_asks did.asks)
 
 -- an operation that is declined since the runner failed to run its job
 abbrev pub unrun_cause : Cause → Bool

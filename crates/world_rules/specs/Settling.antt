@@ -15,6 +15,10 @@ use Rattle.world_rules.specs.World.{World, Moved, IsFresh}
 use Rattle.world_rules.specs.Telling.{LinkTelling, ToldWorlds, HadTroubles}
 use Rattle.world_rules.specs.Asking.{ask_of, AnswersStand}
 
+-- how many asks of a request fail before it is given up
+abbrev pub max_asks : ℕ
+max_asks = 8
+
 -- so many asks of a request that all failed
 abbrev pub failures : Peer → List ℕ → Message → ℕ → List Ask
 failures to address request count = replicate count (ask_of to address request Failed)
@@ -26,13 +30,13 @@ settled to address request failed reply = failures to address request failed ++ 
 -- either a reply came, or eight asks failed
 abbrev pub IsSettling : Peer → List ℕ → Message → Option Message → List Ask → Type 0
 IsSettling to address request (Some reply) asks =
-    (failed : ℕ) × (failed < 8) × IsValid reply × Echoes request reply × (asks ≡ settled to address request failed reply)
-IsSettling to address request None asks = asks ≡ failures to address request 8
+    (failed : ℕ) × (failed < max_asks) × IsValid reply × Echoes request reply × (asks ≡ settled to address request failed reply)
+IsSettling to address request None asks = asks ≡ failures to address request max_asks
 
 -- the asks of a settling that is broken off: some failed, and at most one more was made
 abbrev pub BreaksSettling : Peer → List ℕ → Message → List Ask → Type 0
 BreaksSettling to address request asks =
-    (failed : ℕ) × (failed < 8) × ((asks ≡ failures to address request failed)
+    (failed : ℕ) × (failed < max_asks) × ((asks ≡ failures to address request failed)
     ⊎ ((answer : Answer) × (asks ≡ failures to address request failed ++ ask_of to address request answer ∷ [])))
 
 -- the asks of a settling with this result: a reply, none after eight asks that failed, or want of memory, which breaks it off

@@ -1,4 +1,7 @@
 // What holds of every run of a client in its world, as contracts of calls that do nothing.
+ghost use Rattle.std.specs.Prelude.{◌≡◌};
+ghost use Rattle.world_rules.specs.declared.link.TheConstants.{MAX_ASKS};
+ghost use Rattle.world_rules.specs.Settling.{max_asks};
 ghost use Rattle.world_rules.specs.Laws.{RunsStayInStep, RelaysKeepInStep, RestartsStayInStep};
 ghost use Rattle.world_rules.specs.Laws.{OperationsNeedASurrogate, ClientsWithoutOperationsNeverCollide};
 ghost use Rattle.world_rules.specs.Laws.{NewClientsAreInStep, AsksArePossible, PendingStoresAreValid};
@@ -13,6 +16,11 @@ ghost use Rattle.world_rules.specs.Laws.{RunsTellWhatIsAsked, AskedRequestsWereS
 ghost use Rattle.world_rules.specs.Laws.{AcceptedEntriesWereTaken, DoneEntriesWereTaken, NoGapComes};
 ghost use Rattle.world_rules.specs.Laws.{StaleNamesAPathAhead, RefusalsShowAPathAhead, PullsFindTheirNumber};
 ghost use Rattle.world_rules.specs.Laws.{FreshPullsAreNotOlder};
+
+/// The limit of the code is that of the definitions.
+pub fn limits_agree()
+    ensures { MAX_ASKS ≡ max_asks }
+{}
 
 /// Every run from a log in step ends in step, with what is kept of the log, and so does a new beginning with that, and what a
 /// surrogate sends. A client without a surrogate sends no operation. A new client begins in step, asking is a run. The first

@@ -9,8 +9,8 @@ mod settling;
 
 pub use asking::{Answer, Ask, Peer};
 pub use laws::{
-    entries_are_taken_once, replies_are_true, runs_go_on, runs_stay_in_step,
+    entries_are_taken_once, limits_agree, replies_are_true, runs_go_on, runs_stay_in_step,
     unshared_paths_are_the_clients, worlds_tell_what_happened,
 };
-pub use link::{AskError, Link, LinkError, ask_eight};
+pub use link::{AskError, Link, LinkError, MAX_ASKS, ask_eight};
 pub use settling::settle;

@@ -12,6 +12,9 @@ use crate::Peer;
 use std::alloc::AllocError;
 use thiserror::Error;
 
+/// How many asks of a request fail before it is given up.
+pub const MAX_ASKS: u32 = 8;
+
 /// Why an ask has no answer.
 #[derive(Clone, Copy, Debug, PartialEq, Eq, Error)]
 pub enum LinkError {
@@ -94,7 +97,7 @@ pub fn ask_eight<L: Link>(
     ensures later { (L.tells link.old).troubles ≤ (L.tells link.new).troubles }
     ensures kept { L.keeps link.old link.new }
 {
-    for _tried in 0..8_usize {
+    for _tried in 0..MAX_ASKS {
         match link.ask(to, address, frame) {
             Ok(reply) => return Ok(reply),
             Err(LinkError::Memory) => return Err(AskError::Memory),
