@@ -4,6 +4,7 @@ ghost use Rattle.std.specs.Prelude.{◌≡◌, ◌++◌, ◌∷◌, ◌<◌, ◌
 ghost use Rattle.byte_fields.specs.Field.{Gives, IsFront, one, two};
 ghost use Rattle.file_paths.specs.Reading.{path_at};
 ghost use Rattle.file_paths.specs.Spelling.{path};
+ghost use Rattle.tree_values.specs.Limits.{max_effects, max_files};
 ghost use Rattle.tree_values.specs.Reading.{bit_at};
 ghost use Rattle.tree_values.specs.Spelling.{bit};
 ghost use Rattle.rs_parity.specs.Spelling.{sketch_spelling};
@@ -15,7 +16,7 @@ use crate::sketched::{SketchEffect, SketchEffects};
 use byte_fields::{Item, Spelled, TakeError, put_each, put_u32, take_each, u8_at, u32_at};
 use rs_parity::Sketch;
 use std::alloc::{AllocError, Global};
-use vol_tree::{Path, bit_at, spell_bit};
+use vol_tree::{MAX_EFFECTS, MAX_FILES, Path, bit_at, spell_bit};
 
 impl SketchEffect {
     /// Appends the spelling: a byte for the kind, and the paths and the sketch.
@@ -34,6 +35,17 @@ impl SketchEffect {
             SketchEffect::Move(from, to) => put_paths(from, to, out),
             SketchEffect::Mode(path, exec) => put_mode(path, *exec, out),
         }
+    }
+
+    /// Takes the sketched effect at the place, and gives the place after it.
+    ///
+    /// # Errors
+    ///
+    /// As those of `take_within`, with room for 32 MiB.
+    pub fn take(alloc: Global, bytes: &[u8], at: usize) -> Result<(SketchEffect, usize), TakeError>
+        ensures { Gives result (sketch_effect_at max_files bytes.now at) }
+    {
+        SketchEffect::take_within(alloc, bytes, at, MAX_FILES as u32)
     }
 
     /// Takes the sketched effect at the place, where there is still room for so many bytes of content, and gives the
@@ -184,6 +196,17 @@ impl SketchEffects {
         let items = value.as_slice();
         put_u32(out, value.len() as u32)?;
         put_each(items, out)
+    }
+
+    /// Takes the sketched effects at the place, and gives the place after them.
+    ///
+    /// # Errors
+    ///
+    /// As those of `take_within`, for 1 to 4,096 sketched effects, and 32 MiB for the contents together.
+    pub fn take(alloc: Global, bytes: &[u8], at: usize) -> Result<(SketchEffects, usize), TakeError>
+        ensures { Gives result (sketch_effects_within max_effects max_files bytes.now at) }
+    {
+        SketchEffects::take_within(alloc, bytes, at, MAX_EFFECTS as u32, MAX_FILES as u32)
     }
 
     /// Takes 1 to `most` sketched effects, for contents of at most `room` bytes together, from the place, and gives
