@@ -89,16 +89,6 @@ impl Rows {
         self.items.push_found(found)
     }
 
-    /// The list of these rows. It takes no memory.
-    pub fn from_vec(rows: Vec<Row>) -> Rows
-        requires { length rows.items < 2 ^ 32 }
-        ensures { result ≡ rows.items }
-    {
-        Rows {
-            items: List::from_vec(rows),
-        }
-    }
-
     /// The allocator of the list.
     pub fn allocator(&self) -> Global {
         self.items.allocator()

@@ -2,6 +2,7 @@
 
 ghost use Rattle.std.specs.Prelude.{◌≡◌, length, ◌≤◌, ◌<◌, ◌^◌, ◌-◌, IfOk};
 ghost use Rattle.byte_fields.specs.Field.{Gives, each_at};
+ghost use Rattle.tree_values.specs.Limits.{max_files};
 ghost use Rattle.tree_values.specs.Tree.{IsTree, total_size};
 ghost use Rattle.file_paths.specs.Reading.{path_at, content_at};
 ghost use Rattle.tree_values.specs.Reading.{effect_at, effect_in, make_at, put_at, remove_at, move_at};
@@ -75,6 +76,13 @@ pub fn bit_at(bytes: &[u8], at: usize) -> Result<(bool, usize), TakeError>
 }
 
 impl Effect {
+    /// Takes the effect at the place, as `take_in` does of the second format, where there is room for 32 MiB of content.
+    pub fn take(alloc: Global, bytes: &[u8], at: usize) -> Result<(Effect, usize), TakeError>
+        ensures { Gives result (effect_at max_files bytes.now at) }
+    {
+        Effect::take_in(Format::Second, alloc, bytes, at, MAX_FILES)
+    }
+
     /// Takes the effect of a format at the place, where there is still room for so many bytes of content, and gives the
     /// place after it.
     #[tactic(auto, unfolding(crate::specs::Reading::effect_in))]

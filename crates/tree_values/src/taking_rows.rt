@@ -4,6 +4,7 @@ ghost use Rattle.std.specs.Prelude.{◌≡◌, ◌≤◌, [], length};
 ghost use Rattle.byte_fields.specs.Field.{Gives, each_at};
 ghost use Rattle.tree_values.specs.Tree.{AreInOrder};
 ghost use Rattle.tree_values.specs.Inside.{begun_row_at, with_begun};
+ghost use Rattle.tree_values.specs.declared.format.Format.TheVariants.{Second};
 ghost use Rattle.tree_values.specs.Reading.{may_stand, standing_at, file_at, room_beside, next_row_at, with_next, rows_in, rows_at};
 
 use crate::format::Format;
@@ -43,6 +44,20 @@ impl Rows {
             return Err(TakeError::At(at));
         }
         rows_from(format, alloc, bytes, start, count)
+    }
+}
+
+impl Row {
+    /// Takes the row of the second format at the place, with no rows before it, and gives the place after it.
+    ///
+    /// # Errors
+    ///
+    /// `At` the first faulty field: the path, where it is the root; the version 0; the kind of a node whose parent is not
+    /// the root; a length above 8 MiB. `Memory` where memory runs out.
+    pub fn take(alloc: Global, bytes: &[u8], at: usize) -> Result<(Row, usize), TakeError>
+        ensures { Gives result (next_row_at Second [] bytes.now at) }
+    {
+        next_row_at(Format::Second, alloc, bytes, at, &[], MAX_FILES)
     }
 }
 
