@@ -4,13 +4,25 @@ use Rattle.byte_fields.specs.Codec.{IsBytes}
 use Rattle.byte_fields.specs.Field.{Gives}
 use Rattle.byte_fields.specs.declared.error.TakeError.{TakeError}
 use Rattle.tree_values.specs.Limits.{max_effects, max_files}
-use Rattle.tree_values.specs.Spelling.{EffectsFit}
-use Rattle.tree_values.specs.Reading.{effects_within}
+use Rattle.tree_values.specs.Spelling.{EffectFits, EffectsFit}
+use Rattle.tree_values.specs.Reading.{effect_at, effects_within, effects_at}
 use Rattle.tree_values.specs.declared.node.Effect.{Effect}
-use Rattle.tree_laws.proofs.Parts.{effects_within_codec}
+use Rattle.tree_laws.proofs.Parts.{effect_codec, effects_within_codec, effects_codec}
 use Rattle.mod_log.specs.Reading.{entry_at}
 use Rattle.mod_log.specs.declared.log.Entry.{Entry}
 use Rattle.mod_log.proofs.Codec.{entry_codec}
+
+-- of an effect that a call took where there was so much room
+pub effect_taken_fits : (room : ℕ) (bytes : List ℕ) (taken : Result (Effect × ℕ) TakeError) → IsBytes bytes → Gives taken (effect_at room bytes 0)
+    → IfOk taken (λ x. EffectFits x.0)
+effect_taken_fits room bytes (Ok (effect, next)) are_bytes gives = ((effect_codec room).found bytes 0 effect next are_bytes (omega arith) gives).1.0
+effect_taken_fits room bytes (Err e) are_bytes gives = tt
+
+-- of effects that a call took as those of an entry
+pub all_effects_taken_fit : (bytes : List ℕ) (taken : Result (List Effect × ℕ) TakeError) → IsBytes bytes → Gives taken (effects_at bytes 0)
+    → IfOk taken (λ x. EffectsFit x.0)
+all_effects_taken_fit bytes (Ok (effects, next)) are_bytes gives = (effects_codec.found bytes 0 effects next are_bytes (omega arith) gives).1
+all_effects_taken_fit bytes (Err e) are_bytes gives = tt
 
 effects_fit : (most room : ℕ) (bytes : List ℕ) (effects : List Effect) (next : ℕ) → most ≤ max_effects → room ≤ max_files → IsBytes bytes
     → effects_within most room bytes 0 ≡ Ok (effects, next) → EffectsFit effects

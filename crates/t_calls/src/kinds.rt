@@ -10,13 +10,17 @@ pub(crate) enum Kind {
     /// A path, of which the folder that it stands in is looked at.
     Parent,
     Content,
+    Effect,
     Effects,
     Base,
+    Row,
     Rows,
     Command,
     Job,
     Origin,
     Entry,
+    /// One sketched effect.
+    Sketched,
     Sketches,
 }
 
@@ -53,9 +57,10 @@ pub(crate) enum Look {
 /// Whether numbers or paths behind the kind say what is read.
 pub(crate) fn has_limits(kind: Kind) -> bool {
     match kind {
-        Kind::Content | Kind::Effects | Kind::Base | Kind::Entry | Kind::Sketches => true,
+        Kind::Content | Kind::Effect | Kind::Effects | Kind::Base => true,
+        Kind::Entry | Kind::Sketched | Kind::Sketches => true,
         Kind::Frame | Kind::Client | Kind::Server => false,
-        Kind::Path | Kind::Parent | Kind::Rows => false,
+        Kind::Path | Kind::Parent | Kind::Row | Kind::Rows => false,
         Kind::Command | Kind::Job | Kind::Origin => false,
     }
 }

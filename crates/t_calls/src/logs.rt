@@ -9,7 +9,7 @@ use crate::texts::{
     put_digits, put_line, put_mode, put_move, put_number, put_path, put_path_line, put_paths,
     put_touched, put_word,
 };
-use crate::values::{limits, put_bases, put_effects};
+use crate::values::{limits, put_bases, put_effects, room};
 use cmd_capture::{Command, Env};
 use mod_log::{Entry, Origin, SketchEffect, SketchEffects};
 use std::alloc::{AllocError, Global};
@@ -136,15 +136,51 @@ fn tell_entry(alloc: Global, entry: &Entry, told: &mut Told) -> Result<(), Alloc
     done
 }
 
-/// Reads sketched effects, at most so many for contents of at most so many bytes.
+/// Reads a sketched effect, for a content of at most so many bytes where the rest of the line tells how many.
+pub(crate) fn read_sketched(
+    alloc: Global,
+    bytes: &[u8],
+    rest: &str,
+    told: &mut Told,
+) -> Result<Answer, Fault> {
+    let taken = if rest.is_empty() {
+        SketchEffect::take(alloc, bytes, 0)
+    } else {
+        SketchEffect::take_within(alloc, bytes, 0, room(rest)? as u32)
+    };
+    match taken {
+        Ok((effect, next)) => {
+            let done = tell_sketched(alloc, &effect, told);
+            drop(effect);
+            done?;
+            Ok(read_until(next, bytes))
+        }
+        Err(error) => not_taken(error),
+    }
+}
+
+fn tell_sketched(alloc: Global, effect: &SketchEffect, told: &mut Told) -> Result<(), AllocError> {
+    put_sketched(alloc, &mut told.text, effect)?;
+    let copy = effect.copy()?;
+    let done = SketchEffect::spell(&copy, &mut told.written);
+    drop(copy);
+    done
+}
+
+/// Reads sketched effects, at most so many for contents of at most so many bytes where the rest of the line tells how many.
 pub(crate) fn read_sketches(
     alloc: Global,
     bytes: &[u8],
     rest: &str,
     told: &mut Told,
 ) -> Result<Answer, Fault> {
-    let (most, room) = limits(rest)?;
-    match SketchEffects::take_within(alloc, bytes, 0, most, room as u32) {
+    let taken = if rest.is_empty() {
+        SketchEffects::take(alloc, bytes, 0)
+    } else {
+        let (most, room) = limits(rest)?;
+        SketchEffects::take_within(alloc, bytes, 0, most, room as u32)
+    };
+    match taken {
         Ok((effects, next)) => {
             let done = tell_sketches(alloc, &effects, told);
             drop(effects);

@@ -5,8 +5,10 @@ use crate::frames::read_frame;
 use crate::images::{read_clients, read_servers};
 use crate::jobs::read_job;
 use crate::kinds::Kind;
-use crate::logs::{read_command, read_entry, read_origin, read_sketches};
-use crate::values::{read_base, read_content, read_effects, read_parent, read_path, read_rows};
+use crate::logs::{read_command, read_entry, read_origin, read_sketched, read_sketches};
+use crate::values::{
+    read_base, read_content, read_effect, read_effects, read_parent, read_path, read_row, read_rows,
+};
 use std::alloc::Global;
 use t_scene_files::Fault;
 
@@ -51,13 +53,16 @@ pub(crate) fn read_as(subject: Subject<'_>, told: &mut Told) -> Result<Answer, F
         Kind::Path => read_path(alloc, bytes, told),
         Kind::Parent => read_parent(alloc, bytes, told),
         Kind::Content => read_content(alloc, bytes, rest, told),
+        Kind::Effect => read_effect(alloc, bytes, rest, told),
         Kind::Effects => read_effects(alloc, bytes, rest, told),
         Kind::Base => read_base(alloc, bytes, rest, told),
+        Kind::Row => read_row(alloc, bytes, told),
         Kind::Rows => read_rows(alloc, bytes, told),
         Kind::Command => read_command(alloc, bytes, told),
         Kind::Job => read_job(alloc, bytes, told),
         Kind::Origin => read_origin(alloc, bytes, told),
         Kind::Entry => read_entry(alloc, bytes, rest, told),
+        Kind::Sketched => read_sketched(alloc, bytes, rest, told),
         Kind::Sketches => read_sketches(alloc, bytes, rest, told),
     }
 }

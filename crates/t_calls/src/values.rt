@@ -2,7 +2,7 @@
 
 ghost use Rattle.std.specs.Prelude.{◌≤◌, IfOk};
 ghost use Rattle.tree_values.specs.Limits.{max_effects, max_files};
-ghost use Rattle.tree_values.specs.Spelling.{EffectsFit};
+ghost use Rattle.tree_values.specs.Spelling.{EffectFits, EffectsFit};
 
 use crate::answers::{Answer, not_taken, read_until};
 use crate::readers::Told;
@@ -11,9 +11,10 @@ use crate::texts::{
 };
 use std::alloc::{AllocError, Global};
 use t_scene_files::{Fault, number};
+use tree_values::size_of;
 use vol_tree::{
-    Base, Bases, Content, Effect, Effects, MAX_EFFECTS, MAX_FILE, MAX_FILES, Node, Path, Paths,
-    Row, Rows, TakeError, Tree,
+    Base, Bases, Content, Effect, Effects, Format, MAX_EFFECTS, MAX_FILE, MAX_FILES, Node, Path,
+    Paths, Row, Rows, TakeError, Tree, TryCopy,
 };
 
 /// Reads a path.
@@ -104,14 +105,67 @@ fn tell_content(content: &Content, told: &mut Told) -> Result<(), AllocError> {
     Content::spell(content, &mut told.written)
 }
 
+/// Reads an effect, with a content of at most so many bytes where the rest of the line tells how many.
+pub(crate) fn read_effect(
+    alloc: Global,
+    bytes: &[u8],
+    rest: &str,
+    told: &mut Told,
+) -> Result<Answer, Fault> {
+    let taken = if rest.is_empty() {
+        effect_taken(alloc, bytes)
+    } else {
+        effect_taken_within(alloc, bytes, room(rest)?)
+    };
+    match taken {
+        Ok((effect, next)) => {
+            let done = tell_effect(alloc, &effect, told);
+            drop(effect);
+            done?;
+            Ok(read_until(next, bytes))
+        }
+        Err(error) => not_taken(error),
+    }
+}
+
+fn effect_taken(alloc: Global, bytes: &[u8]) -> Result<(Effect, usize), TakeError>
+    ensures { IfOk result (λ x. EffectFits x.0) }
+{
+    Effect::take(alloc, bytes, 0)
+}
+
+fn effect_taken_within(
+    alloc: Global,
+    bytes: &[u8],
+    room: usize,
+) -> Result<(Effect, usize), TakeError>
+    ensures { IfOk result (λ x. EffectFits x.0) }
+{
+    Effect::take_in(Format::Second, alloc, bytes, 0, room)
+}
+
+fn tell_effect(alloc: Global, effect: &Effect, told: &mut Told) -> Result<(), AllocError>
+    requires { EffectFits effect.now }
+{
+    put_effect(alloc, &mut told.text, effect)?;
+    let copy = effect.copy()?;
+    let done = Effect::spell(&copy, &mut told.written);
+    drop(copy);
+    done
+}
+
+/// The most bytes of a content that the rest of a line tells.
+pub(crate) fn room(rest: &str) -> Result<usize, Fault>
+    ensures { IfOk result (λ room. room ≤ max_files) }
+{
+    limit(rest, MAX_FILES)
+}
+
 /// The most effects, and the most bytes of their contents, that the rest of a line tells.
 pub(crate) fn limits(rest: &str) -> Result<(u32, usize), Fault>
     ensures most { IfOk result (λ x. x.0 ≤ max_effects) }
     ensures room { IfOk result (λ x. x.1 ≤ max_files) }
 {
-    if rest.is_empty() {
-        return Ok((MAX_EFFECTS as u32, MAX_FILES));
-    }
     let Some((most, room)) = rest.split_once(' ') else {
         return Err(Fault::Line("two limits are wanted"));
     };
@@ -119,15 +173,20 @@ pub(crate) fn limits(rest: &str) -> Result<(u32, usize), Fault>
     Ok((most, limit(room, MAX_FILES)?))
 }
 
-/// Reads effects, at most so many with contents of at most so many bytes.
+/// Reads effects, at most so many with contents of at most so many bytes where the rest of the line tells how many.
 pub(crate) fn read_effects(
     alloc: Global,
     bytes: &[u8],
     rest: &str,
     told: &mut Told,
 ) -> Result<Answer, Fault> {
-    let (most, room) = limits(rest)?;
-    match effects_taken(alloc, bytes, most, room) {
+    let taken = if rest.is_empty() {
+        effects_taken(alloc, bytes)
+    } else {
+        let (most, room) = limits(rest)?;
+        effects_taken_within(alloc, bytes, most, room)
+    };
+    match taken {
         Ok((effects, next)) => {
             let done = tell_effects(alloc, &effects, told);
             drop(effects);
@@ -138,7 +197,13 @@ pub(crate) fn read_effects(
     }
 }
 
-fn effects_taken(
+fn effects_taken(alloc: Global, bytes: &[u8]) -> Result<(Effects, usize), TakeError>
+    ensures { IfOk result (λ x. EffectsFit x.0) }
+{
+    Effects::take(alloc, bytes, 0)
+}
+
+fn effects_taken_within(
     alloc: Global,
     bytes: &[u8],
     most: u32,
@@ -251,6 +316,30 @@ pub(crate) fn put_bases(
     Ok(())
 }
 
+/// Reads a row, with no rows before it.
+pub(crate) fn read_row(alloc: Global, bytes: &[u8], told: &mut Told) -> Result<Answer, Fault> {
+    match Row::take(alloc, bytes, 0) {
+        Ok((row, next)) => {
+            let done = tell_row(alloc, &row, told);
+            drop(row);
+            done?;
+            Ok(read_until(next, bytes))
+        }
+        Err(error) => not_taken(error),
+    }
+}
+
+fn tell_row(alloc: Global, row: &Row, told: &mut Told) -> Result<(), AllocError> {
+    put_row(alloc, &mut told.text, row)?;
+    if size_of(row.node.as_ref()) > MAX_FILE as u64 {
+        return Ok(());
+    }
+    let copy = row.copy()?;
+    let done = Row::spell(&copy, &mut told.written);
+    drop(copy);
+    done
+}
+
 /// Reads rows, and writes those of their tree.
 pub(crate) fn read_rows(alloc: Global, bytes: &[u8], told: &mut Told) -> Result<Answer, Fault> {
     match Rows::take(alloc, bytes, 0) {
@@ -282,11 +371,15 @@ fn tell_rows(alloc: Global, rows: Rows, told: &mut Told) -> Result<(), Fault> {
 /// Appends a line for each row, and a file's content behind its own.
 fn put_rows(alloc: Global, text: &mut Vec<u8>, rows: &[Row]) -> Result<(), AllocError> {
     for row in rows {
-        put_path(text, "row ", &row.path)?;
-        put_number(alloc, text, " ", row.version)?;
-        put_node(alloc, text, row.node.as_ref())?;
+        put_row(alloc, text, row)?;
     }
     Ok(())
+}
+
+fn put_row(alloc: Global, text: &mut Vec<u8>, row: &Row) -> Result<(), AllocError> {
+    put_path(text, "row ", &row.path)?;
+    put_number(alloc, text, " ", row.version)?;
+    put_node(alloc, text, row.node.as_ref())
 }
 
 pub(crate) fn put_node(

@@ -39,7 +39,7 @@ pub(crate) enum Act {
 
 /// The words that lines begin with: what scenes with them speak of, what the line is for, and whether a block stands behind it.
 /// A scene that begins with a word speaks of what the first row with this word says.
-const WORDS: [(&str, Topic, Act, bool); 72] = [
+const WORDS: [(&str, Topic, Act, bool); 75] = [
     ("frame", Topic::Bytes, Act::Read(Kind::Frame), true),
     ("payload", Topic::Bytes, Act::Payload, true),
     ("client", Topic::Bytes, Act::Read(Kind::Client), true),
@@ -47,13 +47,16 @@ const WORDS: [(&str, Topic, Act, bool); 72] = [
     ("path", Topic::Bytes, Act::Read(Kind::Path), true),
     ("parent", Topic::Bytes, Act::Read(Kind::Parent), true),
     ("content", Topic::Bytes, Act::Read(Kind::Content), true),
+    ("effect", Topic::Bytes, Act::Read(Kind::Effect), true),
     ("effects", Topic::Bytes, Act::Read(Kind::Effects), true),
     ("base", Topic::Bytes, Act::Read(Kind::Base), true),
+    ("row", Topic::Bytes, Act::Read(Kind::Row), true),
     ("rows", Topic::Bytes, Act::Read(Kind::Rows), true),
     ("command", Topic::Bytes, Act::Read(Kind::Command), true),
     ("job", Topic::Bytes, Act::Read(Kind::Job), true),
     ("origin", Topic::Bytes, Act::Read(Kind::Origin), true),
     ("entry", Topic::Bytes, Act::Read(Kind::Entry), true),
+    ("sketched", Topic::Bytes, Act::Read(Kind::Sketched), true),
     ("sketches", Topic::Bytes, Act::Read(Kind::Sketches), true),
     ("is", Topic::Bytes, Act::Look(Look::Is), true),
     ("refused", Topic::Bytes, Act::Look(Look::Refused), false),
