@@ -7,7 +7,7 @@ ghost use Rattle.file_paths.specs.Inside.{joined_size};
 ghost use Rattle.file_paths.specs.Limits.{max_text};
 ghost use Rattle.file_paths.specs.declared.path.PathError.TheVariants.{Memory};
 ghost use Rattle.file_paths.specs.Path.{IsPath, is_name as name_test, is_dots as dots_test, is_name_byte, path_of, resolved};
-ghost use Rattle.file_paths.specs.Path.{text_before, path_text, parent, folder_of, last_name, path_cmp, partial_order_of_paths};
+ghost use Rattle.file_paths.specs.Path.{text_before, path_text, parent, folder_of, path_cmp, partial_order_of_paths};
 ghost use Rattle.std.specs.Option.{option_copied};
 ghost use Rattle.std.specs.Str.{bytes_eq};
 ghost use Rattle.std.specs.Ordering.{nat_cmp, as_partial_cmp};
@@ -195,16 +195,6 @@ impl Path {
         ensures { option_copied result ≡ slice_get self.now (length self.now - 1) }
     {
         self.names.as_slice().last()
-    }
-
-    /// A copy of the last name; no byte for the root.
-    pub fn last_name(&self) -> Result<Content, AllocError>
-        ensures { IfOk result (λ name. name ≡ last_name self.now) }
-    {
-        match self.names.as_slice().last() {
-            Some(name) => name.copy(),
-            None => Ok(Content::empty()),
-        }
     }
 
     /// Lends the names but the last.
