@@ -90,13 +90,6 @@ impl<R> MemNet<R> {
         self.parts.wires.server()
     }
 
-    /// The surrogate.
-    pub fn surrogate(&self) -> &Surrogate
-        ensures { result.now ≡ self.now.surrogate }
-    {
-        &self.parts.surrogate
-    }
-
     /// What runs the surrogate's jobs.
     pub fn runner(&self) -> &R
         ensures { result.now ≡ self.now.runner }
