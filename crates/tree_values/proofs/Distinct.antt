@@ -66,7 +66,7 @@ filter_both f g h (x ∷ xs) both = by (f x) (g x) refl refl (filter_both f g h 
 
 -- ---- adding each path that is new makes the distinct ones
 
-any_append : (t : FilePath → Bool) (xs ys : List FilePath) → list_any t (xs ++ ys) ≡ (list_any t xs || list_any t ys)
+pub any_append : (t : FilePath → Bool) (xs ys : List FilePath) → list_any t (xs ++ ys) ≡ (list_any t xs || list_any t ys)
 any_append t [] ys = refl
 any_append t (x ∷ xs) ys = by (t x) (any_append t xs ys)
   where

@@ -2,9 +2,9 @@ pub mod Places
 pub mod Ordered
 pub mod Undoing
 pub mod Children
-pub mod Touched
 pub mod Appending
 pub mod Distinct
+pub mod Firsts
 pub mod Sizes
 pub mod RowsTaken
 pub mod FaultKinds

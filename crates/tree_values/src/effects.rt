@@ -1,28 +1,25 @@
 //! What effects touch, and how much they write.
 
-ghost use Rattle.std.specs.Prelude.{◌≡◌, IfOk, OnOk};
-ghost use Rattle.std.specs.List.{fold, list_any};
-ghost use Rattle.std.specs.Str.{bytes_eq};
-ghost use Rattle.std.specs.Cmp.Lexicographic.{pointwise};
-ghost use Rattle.tree_values.specs.Inside.{add_new};
+ghost use Rattle.std.specs.Prelude.{◌≡◌, ◌++◌, map, IfOk, OnOk};
 ghost use Rattle.tree_values.specs.Tree.{touched_paths};
 ghost use Rattle.tree_values.specs.Effects.{touched_all, distinct, content_size};
 
 use crate::lists::Effects;
 use crate::node::Effect;
 use file_paths::{Path, Paths};
-use std::alloc::AllocError;
+use std::alloc::{AllocError, Global};
+use std::collections::BTreeSet;
 
 impl Effects {
     /// The paths that the effects touch, each once, in the order of their first touch.
     pub fn touched(&self) -> Result<Paths, AllocError>
         ensures { IfOk result (λ paths. paths ≡ distinct (touched_all self.now)) }
     {
-        let mut paths = Paths::new(self.allocator());
+        let mut touched = Vec::new(self.allocator());
         for effect in self.as_slice() {
-            add_touched(&mut paths, effect)?;
+            push_touched(&mut touched, effect)?;
         }
-        Ok(paths)
+        distinct_paths(self.allocator(), &touched)
     }
 }
 
@@ -38,32 +35,36 @@ impl Effect {
     }
 }
 
-fn add_touched(paths: &mut Paths, effect: &Effect) -> Result<(), AllocError>
-    ensures { OnOk result (paths.new ≡ fold add_new paths.old (touched_paths effect.now)) }
+/// Adds the paths that the effect touches.
+fn push_touched<'a>(touched: &mut Vec<&'a Path>, effect: &'a Effect) -> Result<(), AllocError>
+    ensures { OnOk result
+        (map (λ path. path.now) touched.new.items ≡ map (λ path. path.now) touched.old.items ++ touched_paths effect.now) }
 {
     match effect {
         Effect::Make(path) | Effect::Put(path, _) | Effect::Remove(path) | Effect::Mode(path, _) =>
-            add_new(paths, path)?,
+            touched.push(path)?,
         Effect::Move(from, to) => {
-            add_new(paths, from)?;
-            add_new(paths, to)?;
+            touched.push(from)?;
+            touched.push(to)?;
         }
     }
     Ok(())
 }
 
-/// Adds a copy of the path, unless it is there.
-fn add_new(paths: &mut Paths, path: &Path) -> Result<(), AllocError>
-    ensures { OnOk result (paths.new ≡ add_new paths.old path.now) }
+/// Copies of the paths, each once, in the order in which they first come.
+///
+/// # Errors
+///
+/// `AllocError` where memory runs out.
+pub fn distinct_paths(alloc: Global, paths: &[&Path]) -> Result<Paths, AllocError>
+    ensures { IfOk result (λ firsts. firsts ≡ distinct (map (λ path. path.now) paths.now)) }
 {
-    if !contains(paths, path) {
-        paths.push(path.copy()?)?;
+    let mut known = BTreeSet::new(alloc);
+    let mut firsts = Paths::new(alloc);
+    for path in paths {
+        if known.insert(*path)? {
+            firsts.push(path.copy()?)?;
+        }
     }
-    Ok(())
-}
-
-fn contains(paths: &Paths, path: &Path) -> bool
-    ensures { result ≡ list_any (pointwise bytes_eq path.now) paths.now }
-{
-    paths.as_slice().iter().any(|known| path == known)
+    Ok(firsts)
 }

@@ -12,6 +12,7 @@ mod spelling;
 mod taking;
 mod taking_rows;
 
+pub use effects::distinct_paths;
 pub use format::Format;
 pub use limits::{MAX_EFFECTS, MAX_FILES, MAX_ROWS};
 pub use lists::{Bases, Effects, Rows};
