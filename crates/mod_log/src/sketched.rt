@@ -1,11 +1,7 @@
 //! Effects with the sketches of their contents in the contents' places.
 
-ghost use Rattle.std.specs.Prelude.{◌≡◌, ◌++◌, ◌∷◌, ◌<◌, ◌^◌, [], length, IfOk, OnOk, OnErr, slice_get, ◌==◌};
-ghost use Rattle.std.specs.List.{fold, list_any};
+ghost use Rattle.std.specs.Prelude.{◌≡◌, ◌++◌, ◌∷◌, ◌<◌, ◌^◌, [], length, map, IfOk, OnOk, OnErr, slice_get, ◌==◌};
 ghost use Rattle.std.specs.Option.{option_copied};
-ghost use Rattle.std.specs.Str.{bytes_eq};
-ghost use Rattle.std.specs.Cmp.Lexicographic.{pointwise};
-ghost use Rattle.tree_values.specs.Inside.{add_new};
 ghost use Rattle.tree_values.specs.Effects.{distinct};
 ghost use Rattle.mod_log.specs.Sketched.{sketch_paths, sketches_touch, sketched_size};
 ghost use Rattle.mod_log.specs.declared.sketched.SketchEffect.TheVariants.{Put, Move, Mode};
@@ -13,6 +9,7 @@ ghost use Rattle.mod_log.specs.declared.sketched.SketchEffect.TheVariants.{Put, 
 use rs_parity::Sketch;
 use std::alloc::{AllocError, Global};
 use std::marker::Model;
+use tree_values::distinct_paths;
 use vol_tree::{List, Path, Paths, TryCopy};
 
 /// A change of a tree, as `Effect`, with the sketch of a content in its place.
@@ -157,41 +154,28 @@ impl SketchEffects {
     pub fn touched(&self) -> Result<Paths, AllocError>
         ensures { IfOk result (λ paths. paths ≡ distinct (sketches_touch self.now)) }
     {
-        let mut paths = Paths::new(self.items.allocator());
+        let mut touched = Vec::new(self.items.allocator());
         for effect in self.items.as_slice() {
-            add_touched(&mut paths, effect)?;
+            push_touched(&mut touched, effect)?;
         }
-        Ok(paths)
+        distinct_paths(self.items.allocator(), &touched)
     }
 }
 
-fn add_touched(paths: &mut Paths, effect: &SketchEffect) -> Result<(), AllocError>
-    ensures { OnOk result (paths.new ≡ fold add_new paths.old (sketch_paths effect.now)) }
+/// Adds the paths that the sketched effect touches.
+fn push_touched<'a>(touched: &mut Vec<&'a Path>, effect: &'a SketchEffect) -> Result<(), AllocError>
+    ensures { OnOk result
+        (map (λ path. path.now) touched.new.items ≡ map (λ path. path.now) touched.old.items ++ sketch_paths effect.now) }
 {
     match effect {
         SketchEffect::Make(path)
         | SketchEffect::Put(path, _)
         | SketchEffect::Remove(path)
-        | SketchEffect::Mode(path, _) => add_new(paths, path),
+        | SketchEffect::Mode(path, _) => touched.push(path)?,
         SketchEffect::Move(from, to) => {
-            add_new(paths, from)?;
-            add_new(paths, to)
+            touched.push(from)?;
+            touched.push(to)?;
         }
     }
-}
-
-/// Adds a copy of the path, unless it is there.
-fn add_new(paths: &mut Paths, path: &Path) -> Result<(), AllocError>
-    ensures { OnOk result (paths.new ≡ add_new paths.old path.now) }
-{
-    if !contains(paths, path) {
-        paths.push(path.copy()?)?;
-    }
     Ok(())
-}
-
-fn contains(paths: &Paths, path: &Path) -> bool
-    ensures { result ≡ list_any (pointwise bytes_eq path.now) paths.now }
-{
-    paths.as_slice().iter().any(|known| path == known)
 }
