@@ -16,7 +16,7 @@ use crate::places::Place;
 use crate::texts::text_of;
 use crate::trouble::{RunTrouble, count};
 use crate::works::Work;
-use cmd_capture::{Job, Outcome, RawRow, RunError, Runner, job_print};
+use cmd_capture::{Job, Outcome, RawRow, RunError, Runner};
 use folder_reading::{Reading, withheld, write_rows};
 use programs_apart::{ApartWish, Care, run_there};
 use std::alloc::AllocGlobal;
@@ -195,7 +195,7 @@ impl<'a, R: Files<File = File> + Processes + AllocGlobal + Clock + Eprint> Child
         ensures small { IfOk result (λ outcome. HasTreeSize outcome.rows) }
         ensures withheld { IfOk result (λ outcome. withheld_in outcome.rows ≡ withheld_of job.now.rows) }
     {
-        let withheld = withheld(self.host.alloc(), job.rows.as_slice())?;
+        let withheld = withheld(self.host.alloc(), job.rows().as_slice())?;
         self.tell_withheld(withheld.as_slice());
         let ran = self.run_with(work, job, withheld.as_slice());
         drop(withheld);
@@ -215,9 +215,8 @@ impl<'a, R: Files<File = File> + Processes + AllocGlobal + Clock + Eprint> Child
         ensures withheld { IfOk result (λ outcome. withheld_in outcome.rows ≡ withheld_in withheld.now) }
     {
         let watch = self.whole_watch(job)?;
-        let print = job_print(self.host.alloc(), job)?;
         let work = Work::made(self.host, text_of(work)?)?;
-        let place = Place::take(self.host, &work, &print, &watch)?;
+        let place = Place::take(self.host, &work, &job.print(), &watch)?;
         let ended = self.run_in(place.folder.as_str(), job, &watch);
         let watch = self.watch_behind(watch);
         let ran = match ended {
@@ -230,8 +229,8 @@ impl<'a, R: Files<File = File> + Processes + AllocGlobal + Clock + Eprint> Child
 
     /// Writes the job's rows and runs its command.
     fn run_in(&self, folder: &str, job: &Job, watch: &Stopwatch) -> Result<u8, RunTrouble> {
-        write_rows(self.host, folder, job.rows.as_slice())?;
-        run_there(self.host, folder, &job.command, watch, &self.care)
+        write_rows(self.host, folder, job.rows().as_slice())?;
+        run_there(self.host, folder, job.command(), watch, &self.care)
     }
 
     /// The watch of the whole run: the longest one, less what its job takes to judge.
@@ -239,7 +238,7 @@ impl<'a, R: Files<File = File> + Processes + AllocGlobal + Clock + Eprint> Child
         ensures { IfOk result (λ watch. option_map as_nanos watch.longest
             ≡ longest_run (option_map as_nanos self.now.limits.whole) job.now.rows) }
     {
-        let longest = self.limits.whole_of(job.rows.as_slice());
+        let longest = self.limits.whole_of(job.rows().as_slice());
         Stopwatch::begin(self.host, "it took", longest)
     }
 

@@ -15,7 +15,7 @@ ghost use Rattle.cmd_capture.specs.Runs.{telling, IsAskedOnce, IsAskedAtMostOnce
 ghost use Rattle.client_core.specs.Keeping.{IsReady};
 
 use crate::Client;
-use cmd_capture::{Command, Job, Outcome, RunError, Runner, job_print};
+use cmd_capture::{Command, Job, Outcome, RunError, Runner};
 use mod_log::{Log, LogError, Origin};
 use std::alloc::Global;
 use vol_tree::{Effect, Effects, Path, TryCopy};
@@ -176,7 +176,7 @@ fn changes_left(alloc: Global, job: &Job, outcome: &Outcome) -> Result<Effects, 
     ensures err { IfErr result (IsRowsFault outcome.now.rows) }
 {
     let rows = rows_of(alloc, &outcome.rows)?;
-    let effects = changes(alloc, &job.rows, &rows);
+    let effects = changes(alloc, job.rows(), &rows);
     drop(rows);
     Ok(effects?)
 }
@@ -221,16 +221,7 @@ fn log_changes(log: &mut Log, command: Command, job: &Job, status: u8, effects: 
         → RanEnds command log.old run result log.new }
     ensures log { IsLog log.new }
 {
-    let job_print = match job_print(log.tree().allocator(), job) {
-        Ok(print) => print,
-        Err(_refused) => {
-            let _acked = log.acked();
-            drop(command);
-            drop(effects);
-            return RunEnd::Memory;
-        }
-    };
-    let origin = Origin::new(command, job_print, status);
+    let origin = Origin::new(command, job.print(), status);
     match log.append(Some(origin), effects) {
         Ok(seq) => RunEnd::Logged { seq, status },
         Err(LogError::Memory) => RunEnd::Memory,

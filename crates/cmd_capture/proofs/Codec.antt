@@ -26,7 +26,7 @@ use Rattle.file_paths.proofs.Parts.{path_codec, content_codec}
 use Rattle.file_paths.proofs.Sizes.{path_length, content_length}
 use Rattle.cmd_capture.specs.Limits.{max_command, max_template}
 use Rattle.cmd_capture.specs.declared.command.Command.{Command}
-use Rattle.cmd_capture.specs.declared.job.Job.{Job}
+use Rattle.cmd_capture.specs.Job.{Job}
 use Rattle.cmd_capture.specs.declared.job.JobRow.{JobRow}
 use Rattle.cmd_capture.specs.Environment.{has_key}
 use Rattle.cmd_capture.specs.Rules.{is_text, is_program, is_key, is_pattern, is_template, IsVariable, AreVariables}

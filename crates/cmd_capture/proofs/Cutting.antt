@@ -22,7 +22,7 @@ use Rattle.tree_values.specs.declared.node.Node.{Node}
 use Rattle.tree_values.specs.declared.node.Node.TheVariants.{Folder, File}
 use Rattle.file_paths.proofs.Parts.{path_codec, path_cut, content_cut}
 use Rattle.cmd_capture.specs.Limits.{max_command, max_template}
-use Rattle.cmd_capture.specs.declared.job.Job.{Job}
+use Rattle.cmd_capture.specs.Job.{Job}
 use Rattle.cmd_capture.specs.declared.job.JobRow.{JobRow}
 use Rattle.cmd_capture.specs.Rules.{is_text, is_program, is_key, is_pattern, is_template}
 use Rattle.cmd_capture.specs.Spelling.{variable, template, counted, command, IsCommand, job_node, job_row, job, RowFits, IsJob}

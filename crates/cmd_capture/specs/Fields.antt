@@ -4,7 +4,7 @@ use Rattle.std.specs.List.{flat_map}
 use Rattle.file_paths.specs.Fields.{path_fields, content_fields}
 use Rattle.tree_values.specs.Fields.{node_fields}
 use Rattle.cmd_capture.specs.declared.command.Command.{Command}
-use Rattle.cmd_capture.specs.declared.job.Job.{Job}
+use Rattle.cmd_capture.specs.Job.{Job}
 use Rattle.cmd_capture.specs.declared.job.JobRow.{JobRow}
 
 -- the fields of the key and of the value

@@ -1,6 +1,7 @@
 pub mod Limits
 pub mod Rules
 pub mod Environment
+pub mod Job
 pub mod Spelling
 pub mod Capture
 pub mod Reading

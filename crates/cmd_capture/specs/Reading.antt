@@ -7,7 +7,7 @@ use Rattle.file_paths.specs.Reading.{path_at, content_at}
 use Rattle.tree_values.specs.declared.node.Node.{Node}
 use Rattle.tree_values.specs.declared.node.Node.TheVariants.{Folder, File}
 use Rattle.cmd_capture.specs.declared.command.Command.{Command}
-use Rattle.cmd_capture.specs.declared.job.Job.{Job}
+use Rattle.cmd_capture.specs.Job.{Job}
 use Rattle.cmd_capture.specs.declared.job.JobRow.{JobRow}
 use Rattle.cmd_capture.specs.Limits.{max_command}
 use Rattle.cmd_capture.specs.Environment.{has_key}

@@ -3,7 +3,7 @@ use Rattle.std.specs.Prelude.{◌≡◌, ◌⊎◌, ℕ, List, [], ◌∷◌, �
 use Rattle.outside.specs.Outside.{raised}
 use Rattle.outside.specs.Memory.{one_more}
 use Rattle.file_paths.specs.Path.{path_text}
-use Rattle.cmd_capture.specs.declared.job.Job.{Job}
+use Rattle.cmd_capture.specs.Job.{Job}
 use Rattle.cmd_capture.specs.declared.job.JobRow.{JobRow}
 use Rattle.cmd_capture.specs.declared.job.RawRow.{RawRow}
 use Rattle.cmd_capture.specs.declared.job.Outcome.{Outcome}

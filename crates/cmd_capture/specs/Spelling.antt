@@ -12,7 +12,7 @@ use Rattle.file_paths.specs.Spelling.{path, content}
 use Rattle.tree_values.specs.Spelling.{node as node_or_none}
 use Rattle.tree_values.specs.declared.node.Node.{Node}
 use Rattle.cmd_capture.specs.declared.command.Command.{Command}
-use Rattle.cmd_capture.specs.declared.job.Job.{Job}
+use Rattle.cmd_capture.specs.Job.{Job}
 use Rattle.cmd_capture.specs.declared.job.JobRow.{JobRow}
 use Rattle.cmd_capture.specs.Limits.{max_command}
 use Rattle.cmd_capture.specs.Rules.{is_text, is_program, is_template, AreVariables}

@@ -16,7 +16,7 @@ mod taking;
 pub use capturing::{CaptureError, capture};
 pub use command::{Command, Template, Templates, Words};
 pub use environment::Env;
-pub use job::{Job, JobRow, JobRows, Outcome, RawRow, RawRows, job_print};
+pub use job::{Job, JobRow, JobRows, Outcome, RawRow, RawRows};
 pub use laws::{
     broken_commands_are_refused_at_their_field, captured_commands_have_a_spelling,
     commands_are_spelled_once, commands_end_with_their_bytes,

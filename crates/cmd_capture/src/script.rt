@@ -146,7 +146,7 @@ fn unchanged(alloc: Global, job: &Job) -> Result<Outcome, AllocError>
     ensures { IfOk result (λ outcome. outcome ≡ unchanged job.now) }
 {
     let mut rows = RawRows::new(alloc);
-    for row in job.rows.as_slice() {
+    for row in job.rows().as_slice() {
         rows.push(raw(row)?)?;
     }
     Ok(Outcome { status: 0, rows })

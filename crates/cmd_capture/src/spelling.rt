@@ -41,7 +41,7 @@ pub(crate) fn put_count16(out: &mut Vec<u8>, count: usize) -> Result<(), AllocEr
 
 /// A length or a count in four bytes; of a greater one the low bytes.
 #[tactic(auto, using(crate::proofs::Wrapped::wrapped32))]
-fn put_count32(out: &mut Vec<u8>, count: usize) -> Result<(), AllocError>
+pub(crate) fn put_count32(out: &mut Vec<u8>, count: usize) -> Result<(), AllocError>
     ensures ok { OnOk result (out.new.items ≡ out.old.items ++ digits w32 count) }
     ensures err { OnErr result (out.new.items ≡ out.old.items) }
 {
@@ -221,8 +221,8 @@ impl Job {
         ensures ok { OnOk result (out.new.items ≡ out.old.items ++ spelling.job value.now) }
         ensures err { OnErr result (IsFront out.old.items out.new.items (spelling.job value.now)) }
     {
-        Command::spell(&value.command, out)?;
-        put_rows(out, value.rows.as_slice())?;
+        Command::spell(value.command(), out)?;
+        put_rows(out, value.rows().as_slice())?;
         Ok(())
     }
 }

@@ -350,7 +350,7 @@ impl Job {
     {
         let (command, middle) = Command::take(alloc, bytes, at)?;
         match job_rows_at(alloc, bytes, middle) {
-            Ok((rows, next)) => Ok((Job { command, rows }, next)),
+            Ok((rows, next)) => Ok((Job::new(alloc, command, rows)?, next)),
             Err(error) => {
                 drop(command);
                 Err(error)

@@ -135,10 +135,10 @@ fn number_of(job: &Job) -> Option<u32>
     ensures number { result ≡ number_of_job job.now }
     ensures few { IfSome result (λ number. number ≤ max_job) }
 {
-    if job.command.program.bytes() != b"/bin/job".as_slice() {
+    if job.command().program.bytes() != b"/bin/job".as_slice() {
         return None;
     }
-    let [word] = job.command.args.as_slice() else {
+    let [word] = job.command().args.as_slice() else {
         return None;
     };
     match str::from_utf8(word.bytes()) {
@@ -165,7 +165,7 @@ fn unchanged(alloc: Global, job: &Job) -> Result<Outcome, AllocError>
     ensures { IfOk result (λ outcome. outcome ≡ unchanged job.now) }
 {
     let mut rows = RawRows::new(alloc);
-    for row in job.rows.as_slice() {
+    for row in job.rows().as_slice() {
         rows.push(raw(row)?)?;
     }
     Ok(Outcome { status: 0, rows })
@@ -199,7 +199,7 @@ fn folder_of(alloc: Global, job: &Job) -> Result<RawRows, AllocError>
     ensures { IfOk result (λ rows. rows ≡ map raw_row (option_to_list (find is_e job.now.rows))) }
 {
     let mut rows = RawRows::new(alloc);
-    if let Some(row) = row_e(job.rows.as_slice()) {
+    if let Some(row) = row_e(job.rows().as_slice()) {
         rows.push(raw(row)?)?;
     }
     Ok(rows)

@@ -73,7 +73,7 @@ fn judge_rows(
     ensures { IfOk result (IsComparison sketched.now.effects (replay_changes sketched.now job.now rows)) }
 {
     let renamed = under_client_names(alloc, sketched, job, rows)?;
-    let found = changes(alloc, &job.rows, &renamed)?;
+    let found = changes(alloc, job.rows(), &renamed)?;
     compare(alloc, sketched.effects.as_slice(), found.as_slice())
 }
 

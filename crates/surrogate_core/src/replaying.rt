@@ -15,7 +15,7 @@ ghost use Rattle.surrogate_core.specs.Handling.{job_for, unless_clash};
 ghost use Rattle.surrogate_core.specs.Serving.{failed_cause};
 ghost use Rattle.surrogate_core.specs.Inside.{IsHeld, IsJudgedReplay};
 
-use cmd_capture::{Job, Outcome, job_print};
+use cmd_capture::{Job, Outcome};
 use mod_log::SketchEntry;
 use replay_judge::{Verdict, judge};
 use std::alloc::{AllocError, Global};
@@ -49,21 +49,16 @@ pub(crate) fn prepare(
         Err(JobError::NoInput(index)) => return Ok(Err(Cause::NoJob { code: 2, index })),
         Err(JobError::Memory) => return Err(AllocError),
     };
-    match job_print(alloc, &job) {
-        Ok(found) => Ok(if_printed(job, sketched.origin.job_print, found)),
-        Err(refused) => {
-            drop(job);
-            Err(refused)
-        }
-    }
+    Ok(if_printed(job, sketched.origin.job_print))
 }
 
-/// The job, where the print that was found is the logged one.
-fn if_printed(job: Job, logged: [u8; 32], found: [u8; 32]) -> Result<Job, Cause>
-    ensures job { result ≡ (if bytes_eq found logged then Ok job else Err (OtherJob logged found)) }
+/// The job, where its print is the logged one.
+fn if_printed(job: Job, logged: [u8; 32]) -> Result<Job, Cause>
+    ensures job { result ≡ (if bytes_eq (job_print job) logged then Ok job else Err (OtherJob logged (job_print job))) }
     ensures fits { IfErr result CauseFits }
     ensures none_failed { IfErr result (λ cause. failed_cause cause ≡ 0) }
 {
+    let found = job.print();
     if found == logged {
         return Ok(job);
     }

@@ -25,8 +25,8 @@ pub(crate) fn read_job(alloc: Global, bytes: &[u8], told: &mut Told) -> Result<A
 
 /// The command, and each row; what is written of a copy.
 fn tell_job(alloc: Global, job: &Job, told: &mut Told) -> Result<(), AllocError> {
-    put_command(&mut told.text, &job.command)?;
-    put_job_rows(alloc, &mut told.text, job.rows.as_slice())?;
+    put_command(&mut told.text, job.command())?;
+    put_job_rows(alloc, &mut told.text, job.rows().as_slice())?;
     let copy = job.copy()?;
     let done = Job::spell(&copy, &mut told.written);
     drop(copy);

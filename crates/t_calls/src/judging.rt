@@ -275,7 +275,7 @@ pub(crate) fn job_on(alloc: Global, given: &[Given], rows: JobRows) -> Result<Jo
     ensures { IfOk result (λ job. AreJobRows job.rows) }
 {
     match command(alloc, given) {
-        Ok(command) => Ok(Job { command, rows }),
+        Ok(command) => Ok(Job::new(alloc, command, rows)?),
         Err(error) => {
             drop(rows);
             Err(Fault::from(error))

@@ -203,10 +203,7 @@ fn env_job(rt: &HostRuntime, variables: &str) -> Result<Job, Fail> {
     let command = captured(rt, &words, "");
     drop(words);
     let rows = JobRows::new(rt.alloc());
-    Ok(Job {
-        command: command?,
-        rows,
-    })
+    Ok(Job::new(rt.alloc(), command?, rows)?)
 }
 
 /// Its status, 128 more than the signal that ended it, and none where there is no such program. The way to WORK may have a link.

@@ -7,7 +7,7 @@ ghost use Rattle.cmd_capture.specs.Rows.{AreJobRows};
 ghost use Rattle.mod_log.specs.Origin.{OriginFits};
 
 use crate::tests::{outcome_of, remove_work};
-use cmd_capture::{Command, Job, Outcome, Words, capture, job_print};
+use cmd_capture::{Command, Job, Outcome, Words, capture};
 use mod_log::{Log, Origin, SketchEntry, sketch_entry};
 use replay_judge::{Verdict, judge};
 use std::alloc::Global;
@@ -88,7 +88,7 @@ fn changed(alloc: Global, job: &Job, outcome: &Outcome) -> Result<Effects, Fail>
     requires { AreJobRows job.now.rows }
 {
     let rows = rows_of(alloc, &outcome.rows)?;
-    let effects = changes(alloc, &job.rows, &rows);
+    let effects = changes(alloc, job.rows(), &rows);
     drop(rows);
     Ok(effects?)
 }
@@ -123,14 +123,7 @@ fn made(
             return Err(error);
         }
     };
-    match job_print(alloc, job) {
-        Ok(print) => Ok((Origin::new(command, print, outcome.status), effects)),
-        Err(error) => {
-            drop(command);
-            drop(effects);
-            Err(Fail::from(error))
-        }
-    }
+    Ok((Origin::new(command, job.print(), outcome.status), effects))
 }
 
 /// The client's log of the tree behind the run.

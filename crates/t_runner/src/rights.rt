@@ -1,6 +1,6 @@
 //! The right to run a file: it goes from a run to the next, it is its owner's, and a link has none.
 
-use crate::tests::{captured, job, outcome_of, ran, ran_job, words};
+use crate::tests::{job, job_on, outcome_of, ran, ran_job};
 use cmd_capture::{Job, Outcome};
 use std::rt::HostRuntime;
 use std::test::Fail;
@@ -24,12 +24,7 @@ fn left_by(rt: &HostRuntime, work: &str, script: &str) -> Result<Outcome, Fail> 
 
 /// The job that runs the script on what was left.
 fn next_job(rt: &HostRuntime, left: &Outcome, script: &str) -> Result<Job, Fail> {
-    let words = words(rt, "/bin/sh", script)?;
-    let command = captured(rt, &words, "");
-    drop(words);
-    let command = command?;
-    let rows = rows_of(rt.alloc(), &left.rows)?;
-    Ok(Job { command, rows })
+    job_on(rt, script, rows_of(rt.alloc(), &left.rows)?)
 }
 
 /// Runs the first script, and the second one on what that left. Shows what came of the second.

@@ -1,7 +1,7 @@
 //! Rows that a program cannot be given, and what is odd in a folder that it left.
 
-use crate::tests::{content, job, outcome_of, ran_job, remove_work};
-use cmd_capture::{Job, JobRow, JobRows};
+use crate::tests::{content, job, job_on, outcome_of, ran_job, remove_work};
+use cmd_capture::{JobRow, JobRows};
 use std::rt::HostRuntime;
 use std::test::Fail;
 use vol_tree::{Node, Path};
@@ -25,9 +25,7 @@ fn odd_rows(rt: &HostRuntime) -> Result<JobRows, Fail> {
 
 /// What came of the script on these rows.
 fn ran_on_odd(rt: &HostRuntime, work: &str, script: &str) -> Result<String, Fail> {
-    let whole = job(rt, "/bin/sh", "", script)?;
-    let rows = odd_rows(rt)?;
-    let job = Job { rows, ..whole };
+    let job = job_on(rt, script, odd_rows(rt)?)?;
     let text = ran_job(rt, work, &job, None);
     drop(job);
     text

@@ -58,7 +58,15 @@ pub(crate) fn job(rt: &HostRuntime, program: &str, cwd: &str, script: &str) -> R
     drop(words);
     let command = command?;
     let rows = rows(rt)?;
-    Ok(Job { command, rows })
+    Ok(Job::new(rt.alloc(), command, rows)?)
+}
+
+/// The job of a shell that runs the script on these rows.
+pub(crate) fn job_on(rt: &HostRuntime, script: &str, rows: JobRows) -> Result<Job, Fail> {
+    let words = words(rt, "/bin/sh", script)?;
+    let command = captured(rt, &words, "");
+    drop(words);
+    Ok(Job::new(rt.alloc(), command?, rows)?)
 }
 
 /// The status and the rows, folders with `/` behind them and files with their contents,
@@ -340,8 +348,7 @@ fn files_are_read_whole(rt: HostRuntime) -> Result<(), Fail> {
 fn what_cannot_be_written_is_a_fault(rt: HostRuntime) -> Result<(), Fail> {
     let mut rows = JobRows::new(rt.alloc());
     push_row(&rt, &mut rows, "a/b", Node::file(content(&rt, "old")?))?;
-    let whole = job(&rt, "/bin/sh", "", "exit 0")?;
-    let job = Job { rows, ..whole };
+    let job = job_on(&rt, "exit 0", rows)?;
     let text = ran_job(&rt, "work_odd", &job, None);
     drop(job);
     assert!(rt; text?.as_str() == "the run failed, 1");
@@ -355,8 +362,7 @@ fn ran_large(rt: &HostRuntime, longest: Duration) -> Result<String, Fail> {
     drop(bytes);
     let mut rows = JobRows::new(rt.alloc());
     push_row(rt, &mut rows, "a", Node::file(content))?;
-    let whole = job(rt, "/bin/sh", "", "rm a; printf 1 > c")?;
-    let job = Job { rows, ..whole };
+    let job = job_on(rt, "rm a; printf 1 > c", rows)?;
     let text = ran_job(rt, "work_large", &job, Some(longest));
     drop(job);
     text

@@ -297,7 +297,7 @@ pub fn renaming(
         alloc,
         &entry.origin.command.templates,
         &entry.effects,
-        &job.rows,
+        job.rows(),
         rows,
     )
 }

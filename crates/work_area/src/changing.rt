@@ -171,7 +171,7 @@ fn has_row(job: &Job, path: &Path) -> bool
     requires { JobRowsAreInOrder job.now.rows }
     ensures { result ≡ rules.has_row job.now.rows path.now }
 {
-    row_of(job.rows.as_slice(), path.names()).is_some()
+    row_of(job.rows().as_slice(), path.names()).is_some()
 }
 
 /// Whether something stands at the path that the job has not.
@@ -202,7 +202,7 @@ fn has_child(job: &Job, folder: &Path, name: &Content) -> bool
     requires { JobRowsAreInOrder job.now.rows }
     ensures { result ≡ rules.has_row job.now.rows (folder.now ++ name.now ∷ []) }
 {
-    job.rows
+    job.rows()
         .as_slice()
         .binary_search_by(|row| order_of_child(row, folder.names(), name))
         .is_ok()

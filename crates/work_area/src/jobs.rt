@@ -116,7 +116,7 @@ fn formed_job(alloc: Global, tree: &Tree, command: &Command) -> Result<Job, Allo
 {
     let rows = rows_of_job(alloc, tree, command)?;
     match command.copy() {
-        Ok(command) => Ok(Job { command, rows }),
+        Ok(command) => Job::new(alloc, command, rows),
         Err(e) => {
             drop(rows);
             Err(e)

@@ -7,7 +7,7 @@ use Rattle.work_area.proofs.changing.has_child.Goals as goal
 -- the closure compares a row's path with that of the name in the folder
 pub returns : goal.returns
 returns c =
-    let facts = rw c.as_slice.ensures.items at c.binary_search_by.ensures in
+    let facts = rw (c.as_slice.ensures.items, c.rows.ensures) at c.binary_search_by.ensures in
     let child = c.args.folder.now ++ c.args.name.now ∷ [] in
     let by_path =
     facts.position (λ row. path_cmp row.path child) (always_returns_same _ _ _ (λ a r g called. (search rules, search rules))) in

@@ -11,12 +11,13 @@ returns-in_err-spell-clause-err c =
     let job = c.args.value.now in
     on_error c.from_residual.result
     (front_first c.args.out.now.items c.spell.new.out.items (command job.command) (digits w32 (length job.rows) ++ flat_map job_row job.rows)
-    c.in_err-spell.ensures.err)
+    (rw c.command.ensures at c.in_err-spell.ensures.err))
 
 pub returns-in_err-put_rows-clause-err : goal.returns-in_err-put_rows-clause-err
 returns-in_err-put_rows-clause-err c =
     let job = c.args.value.now in
     on_error c.from_residual-in_err-put_rows.result
     (front_second c.args.out.now.items c.spell.new.out.items c.put_rows.new.out.items (command job.command)
-    (digits w32 (length job.rows) ++ flat_map job_row job.rows) c.in_ok-spell.ensures.ok
-    (rw c.as_slice.ensures.items at c.in_err-put_rows.ensures.err))
+    (digits w32 (length job.rows) ++ flat_map job_row job.rows)
+    (rw c.command.ensures at c.in_ok-spell.ensures.ok)
+    (rw (c.as_slice.ensures.items, c.rows.ensures) at c.in_err-put_rows.ensures.err))
