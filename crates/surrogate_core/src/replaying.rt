@@ -49,16 +49,16 @@ pub(crate) fn prepare(
         Err(JobError::NoInput(index)) => return Ok(Err(Cause::NoJob { code: 2, index })),
         Err(JobError::Memory) => return Err(AllocError),
     };
-    Ok(if_printed(job, sketched.origin.job_print))
+    let found = job.print();
+    Ok(if_printed(job, sketched.origin.job_print, found))
 }
 
-/// The job, where its print is the logged one.
-fn if_printed(job: Job, logged: [u8; 32]) -> Result<Job, Cause>
-    ensures job { result ≡ (if bytes_eq (job_print job) logged then Ok job else Err (OtherJob logged (job_print job))) }
+/// The job, where the print that was found is the logged one.
+fn if_printed(job: Job, logged: [u8; 32], found: [u8; 32]) -> Result<Job, Cause>
+    ensures job { result ≡ (if bytes_eq found logged then Ok job else Err (OtherJob logged found)) }
     ensures fits { IfErr result CauseFits }
     ensures none_failed { IfErr result (λ cause. failed_cause cause ≡ 0) }
 {
-    let found = job.print();
     if found == logged {
         return Ok(job);
     }
