@@ -215,8 +215,9 @@ impl<'a, R: Files<File = File> + Processes + AllocGlobal + Clock + Eprint> Child
         ensures withheld { IfOk result (λ outcome. withheld_in outcome.rows ≡ withheld_in withheld.now) }
     {
         let watch = self.whole_watch(job)?;
+        let print = job.print();
         let work = Work::made(self.host, text_of(work)?)?;
-        let place = Place::take(self.host, &work, &job.print(), &watch)?;
+        let place = Place::take(self.host, &work, &print, &watch)?;
         let ended = self.run_in(place.folder.as_str(), job, &watch);
         let watch = self.watch_behind(watch);
         let ran = match ended {

@@ -135,10 +135,11 @@ fn number_of(job: &Job) -> Option<u32>
     ensures number { result ≡ number_of_job job.now }
     ensures few { IfSome result (λ number. number ≤ max_job) }
 {
-    if job.command().program.bytes() != b"/bin/job".as_slice() {
+    let command = job.command();
+    if command.program.bytes() != b"/bin/job".as_slice() {
         return None;
     }
-    let [word] = job.command().args.as_slice() else {
+    let [word] = command.args.as_slice() else {
         return None;
     };
     match str::from_utf8(word.bytes()) {
