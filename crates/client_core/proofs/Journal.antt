@@ -22,11 +22,12 @@ use Rattle.store_image.specs.Records.{client_record, client_records, with_record
 use Rattle.store_image.specs.Image.{IsKeptFor, IsKeptWholeFor, Keeps}
 use Rattle.store_image.proofs.Keeping.{client_once}
 use Rattle.store_image.proofs.Appended.{records_are_appended, cut_records_are_torn}
+use Rattle.world_rules.proofs.Asks.{told_as}
 use Rattle.client_core.specs.declared.keeping.Journal.{Journal}
 use Rattle.client_core.specs.declared.keeping.Piece.{Piece}
 use Rattle.client_core.specs.Client.{Client}
 use Rattle.client_core.specs.Journal.{last_logged, notes_since, bytes_with, may_add, next_notes, bytes_after, journal_with, journal_after}
-use Rattle.client_core.specs.Keeping.{IsKept, log_until, IsReadyFor, IsReady, IsKeptNext, AddsSome, StillKeeps, OthersStay, IsSmall, StaysSmall, most_records, LeavesKept, KeepsNext}
+use Rattle.client_core.specs.Keeping.{IsKept, log_until, IsReadyFor, IsReady, IsKeptNext, AddsSome, StillKeeps, OthersStay, IsSmall, StaysSmall, most_records, LeavesKept, KeepsNext, WritesNext}
 use Rattle.client_core.specs.Inside.{LeadsTo, MayKeep, IsPiece, IsWithin, IsCountedBy}
 
 -- ---- what stands under the name
@@ -439,6 +440,15 @@ module _ (journal : Option Journal) where
         let sum : piece.bytes ≡ fits.records + length piece.records.items =
         p.3 ∙ ap (λ (n : Option (List ClientRecord)). bytes_after n journal) p.1 ∙ fits.sum ∙ ap (λ (text : List ℕ). fits.records + length text) (sym p.2) in
         appended_within name piece.records.items fits.records piece.bytes sum done i j fits.within told
+
+-- the records of the notes are what is appended
+pub piece_writes : (journal : Option Journal) (notes : Option (List ClientRecord)) (found : Option Piece) (piece : Piece) → IsPiece journal notes found → found ≡ Some piece → (name : List ℕ) (number : ℕ) (log : Log)
+    (r : Result (Unit {0}) KeepError) (i j : Option Images) → Told i j (λ old new. Appends name piece.records.items r old new) → Told i j (WritesNext name number log notes r)
+piece_writes journal notes found piece is found_is name number log r i j told =
+    let p = piece_is journal notes piece (subst (IsPiece journal notes) found_is is) in
+    subst (λ (n : Option (List ClientRecord)). Told i j (WritesNext name number log n r)) (sym p.1)
+    (told_as i j (λ old new. Appends name (client_records p.0) r old new) (WritesNext name number log (Some p.0) r)
+    (subst (λ (text : List ℕ). Told i j (λ old new. Appends name text r old new)) p.2 told) (λ x y put. put))
 
 module _ (j : Journal) (rose : Bool) (log : Log) where
   -- an entry that was not kept is acknowledged

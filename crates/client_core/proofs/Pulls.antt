@@ -3,7 +3,7 @@ use Rattle.std.proofs.Common.{Bool, false, is_some, ◌≡◌, ◌≢◌, ◌⊎
 use Rattle.std.specs.Prelude.{unwrap_or}
 use Rattle.std.specs.declared.alloc.AllocError.{AllocError}
 use Rattle.outside.specs.Outside.{Told, Rose}
-use Rattle.outside.specs.Keeper.{Images}
+use Rattle.outside.specs.Keeper.{Images, IsPut}
 use Rattle.outside.specs.declared.errors.KeepError.{KeepError}
 use Rattle.outside.specs.declared.errors.KeepError.TheVariants as keepers
 use Rattle.tree_values.specs.Lists.{IsIn}
@@ -34,7 +34,7 @@ use Rattle.client_core.specs.declared.pulling.Pulling.{Pulling}
 use Rattle.client_core.specs.declared.pulling.Pulling.TheVariants.{Replaced, Ended}
 use Rattle.client_core.specs.Trace.{Trace, followed, asking, pulling}
 use Rattle.client_core.specs.Pulling.{pull_of, Meets, IsKeptBase, PullChanges, pulled_end, is_broken_pull, PullsSnapshot, PullTurn, PullAsks, PullEnds}
-use Rattle.client_core.specs.Keeping.{IsKept, Keeping, KeepsNext}
+use Rattle.client_core.specs.Keeping.{IsKept, Keeping, WritesNext, StaysOrPuts}
 use Rattle.client_core.specs.Goes.{Goes, Went, stand, no_runner}
 use Rattle.client_core.specs.Causes.{TakesRows, HasPullCause, PullKeeps, PullWrites}
 use Rattle.client_core.specs.Honest.{IsNotOtherLast, IsNotOlder}
@@ -390,13 +390,18 @@ module _ (name : List ℕ) (client : ℕ) (before after : Log) where
   unchanged_writes i (ends.Older path theirs ours) leaves = tt
   unchanged_writes i (ends.Pending count) leaves = tt
   unchanged_writes i ends.Unanswered leaves = tt
-  unchanged_writes i ends.KeepFault leaves = tt
-  unchanged_writes i ends.Memory leaves = tt
+  unchanged_writes i ends.KeepFault leaves = absurd leaves
+  unchanged_writes i ends.Memory leaves = inl refl
 
-  -- or the client's image
-  pub pulled_writes : (i l : Option Images) (count : ℕ) (r : Result (Unit {0}) KeepError) → (IsKeptBase before after.base → ⊥) → Told i l (KeepsNext name client after None r)
+  -- or the client's image, unless the save is refused
+  refused_writes : (e : KeepError) (i l : Option Images) → Told i l (WritesNext name client after None (Err e)) → StaysOrPuts name (image (record { client = client; log = after })) i l
+  refused_writes e (Some x) (Some y) (inl same) = inl (ap Some same)
+  refused_writes e (Some x) (Some y) (inr put) = inr put
+  refused_writes e (Some x) None told = absurd told
+  refused_writes e None l told = inl told
+
+  pub pulled_writes : (i l : Option Images) (count : ℕ) (r : Result (Unit {0}) KeepError) → (IsKeptBase before after.base → ⊥) → Told i l (WritesNext name client after None r)
       → PullWrites name client before (pulled_end count r) after i l
-  pulled_writes i l count (Ok done) other told =
-      inr (other, told_as i l _ (λ old new. new name ≡ Some (image (record { client = client; log = after }))) told (λ x y kept. kept.here ∙ ap Some kept.written))
-  pulled_writes i l count (Err keepers.Failed) other told = tt
-  pulled_writes i l count (Err keepers.Memory) other told = tt
+  pulled_writes i l count (Ok done) other told = inr (other, told_as i l _ (IsPut name (image (record { client = client; log = after }))) told (λ x y put. put))
+  pulled_writes i l count (Err keepers.Failed) other told = refused_writes keepers.Failed i l told
+  pulled_writes i l count (Err keepers.Memory) other told = refused_writes keepers.Memory i l told

@@ -9,7 +9,7 @@ use Rattle.store_image.specs.Spelling.{client as image}
 use Rattle.store_image.specs.Image.{IsKeptWholeFor, Keeps}
 use Rattle.store_image.proofs.Appended.{records_are_appended}
 use Rattle.world_rules.proofs.Asks.{told_start, told_as}
-use Rattle.client_core.specs.Keeping.{IsSmall, LeavesKept, KeepsNext}
+use Rattle.client_core.specs.Keeping.{IsSmall, LeavesKept, KeepsNext, WritesNext}
 
 module _ {E : Type 0} (name : List ℕ) (number : ℕ) (log : Log) where
   -- a save of the client's image keeps it, or leaves what was kept
@@ -36,3 +36,18 @@ module _ {E : Type 0} (name : List ℕ) (number : ℕ) (log : Log) where
       left : (notes : Option (List ClientRecord)) (found : Option (List ℕ)) → LeavesKept number log notes found found
       left None found = inl (λ c l keeps. keeps)
       left (Some notes) found = inl (λ c l keeps. keeps)
+
+  -- the bytes that were saved are the image
+  pub saved_writes : (bytes : List ℕ) (r : Result (Unit {0}) E) (i j : Option Images) → bytes ≡ image (record { client = number; log = log }) → Told i j (λ old new. Saves name bytes r old new)
+      → Told i j (WritesNext name number log None r)
+  saved_writes bytes r i j spelled told =
+      told_as i j (λ old new. Saves name (image (record { client = number; log = log })) r old new) (WritesNext name number log None r)
+      (subst (λ (text : List ℕ). Told i j (λ old new. Saves name text r old new)) spelled told) (λ x y put. put)
+
+  -- where nothing was written, all is as before
+  pub unwritten_writes : (notes : Option (List ClientRecord)) (e : E) (i : Option Images) → Told i i (WritesNext {E = E} name number log notes (Err e))
+  unwritten_writes notes e i = told_start i (WritesNext name number log notes (Err e)) (λ x. as_before notes x)
+    where
+      as_before : (notes : Option (List ClientRecord)) (x : Images) → WritesNext {E = E} name number log notes (Err e) x x
+      as_before None x = inl refl
+      as_before (Some notes) x = inl refl

@@ -1,7 +1,7 @@
 -- What a sync and a pull promise over any link, also over one that tells no world.
 use Rattle.std.specs.Prelude.{◌≡◌, ◌≢◌, ◌⊎◌, ℕ, ◌+◌, ◌<◌, ◌≤◌, false, List, [], ◌∷◌, Option, Some, length}
 use Rattle.outside.specs.Outside.{RoseBy, Rose, Told}
-use Rattle.outside.specs.Keeper.{Images}
+use Rattle.outside.specs.Keeper.{Images, IsPut}
 use Rattle.tree_values.specs.Tree.{Volume, IsTree}
 use Rattle.mod_log.specs.Log.{Log, acknowledged, pulled}
 use Rattle.wire_frames.specs.declared.message.Message.{Message}
@@ -14,7 +14,7 @@ use Rattle.client_core.specs.declared.pulling.PullEnd.{PullEnd}
 use Rattle.client_core.specs.declared.pulling.PullEnd.TheVariants as pulls
 use Rattle.client_core.specs.Syncing.{end_by, is_broken_sync}
 use Rattle.client_core.specs.Pulling.{Meets, IsKeptBase, is_broken_pull}
-use Rattle.client_core.specs.Keeping.{Keeping}
+use Rattle.client_core.specs.Keeping.{Keeping, StaysOrPuts}
 
 -- ---- sync
 
@@ -87,10 +87,13 @@ pub record PullKeeps (name : List ℕ) (client : ℕ) (before : Log) (end : Pull
   pub keeping : Keeping name client before after kept changes images now
   pub whole : is_broken_pull end ≡ false → kept ≡ after
 
--- What a pull writes that took rows: nothing where they are kept already, and else the client's image.
+-- What a pull writes that took rows: nothing where they are kept already, and else the client's image. One that was broken off leaves all
+-- bytes as they were, or has put this image.
 abbrev pub PullWrites : List ℕ → ℕ → Log → PullEnd → Log → Option Images → Option Images → Type 0
 PullWrites name client before (pulls.Pulled count) after images now =
     (IsKeptBase before after.base × (now ≡ images))
     ⊎ ((IsKeptBase before after.base → ⊥)
-    × Told images now (λ old new. new name ≡ Some (image (record { client = client; log = after }))))
+    × Told images now (IsPut name (image (record { client = client; log = after }))))
+PullWrites name client before pulls.KeepFault after images now = StaysOrPuts name (image (record { client = client; log = after })) images now
+PullWrites name client before pulls.Memory after images now = StaysOrPuts name (image (record { client = client; log = after })) images now
 PullWrites name client before end after images now = Unit {0}

@@ -2,7 +2,7 @@
 use Rattle.std.specs.Prelude.{◌≡◌, ◌≢◌, ◌⊎◌, ℕ, suc, ◌+◌, ◌-◌, ◌≤◌, List, []}
 use Rattle.std.specs.Prelude.{◌++◌, length, take, Option, None, Some, IfSome, Result, Ok, Err}
 use Rattle.outside.specs.Outside.{Told}
-use Rattle.outside.specs.Keeper.{Images}
+use Rattle.outside.specs.Keeper.{Images, IsPut, Saves, Appends}
 use Rattle.mod_log.specs.Log.{Log}
 use Rattle.store_image.specs.declared.image.TheConstants.{MAX_CLIENT_IMAGE, MAX_RECORDS}
 use Rattle.store_image.specs.declared.record.ClientRecord.{ClientRecord}
@@ -111,6 +111,16 @@ abbrev pub KeepsNext : {E : Type 0} → List ℕ → ℕ → Log → Option (Lis
 KeepsNext name number log notes (Ok done) old new = IsKeptNext name number log notes old new
 KeepsNext name number log notes (Err e) old new =
     LeavesKept number log notes (old name) (new name) × OthersStay name old new × StaysSmall name old new
+
+-- A keeping saves the client's image under the name, or appends the records of these notes to what stands there. One that is refused leaves
+-- the bytes as they were, or the whole image, or a front of the records behind what stood there.
+abbrev pub WritesNext : {E : Type 0} → List ℕ → ℕ → Log → Option (List ClientRecord) → Result (Unit {0}) E → Images → Images → Type 0
+WritesNext name number log None result old new = Saves name (image (record { client = number; log = log })) result old new
+WritesNext name number log (Some notes) result old new = Appends name (client_records notes) result old new
+
+-- all that is kept is as before, or just these bytes were put under the name
+abbrev pub StaysOrPuts : List ℕ → List ℕ → Option Images → Option Images → Type 0
+StaysOrPuts name bytes images now = (now ≡ images) ⊎ Told images now (IsPut name bytes)
 
 -- What stands under the name is kept for this log, and is what stood there where no change was made. Else it stood there, too, or it has no
 -- more bytes than the largest image and the records that may stand behind it. Other names have what they had.

@@ -6,7 +6,7 @@ ghost use Rattle.mod_log.specs.Log.{Log, IsLog, new_log};
 ghost use Rattle.mod_log.specs.Append.{appended};
 ghost use Rattle.client_core.specs.Logging.{local_entry};
 ghost use Rattle.client_core.specs.Journal.{next_notes, journal_after};
-ghost use Rattle.client_core.specs.Keeping.{IsReady, KeepsNext};
+ghost use Rattle.client_core.specs.Keeping.{IsReady, KeepsNext, WritesNext};
 
 use crate::keeping::{Journal, keep_log};
 use mod_log::{Log, LogError};
@@ -138,6 +138,9 @@ impl Client {
         requires { IsReady (K.images keeper.old) name.now self.old }
         ensures kept { Told (K.images keeper.old) (K.images keeper.new)
             (KeepsNext name.now self.old.number self.old.log (next_notes self.old.journal false self.old.log) result) }
+        // where it is refused, the bytes are as they were, or whole, or a front of what it appends stands behind them
+        ensures writes { Told (K.images keeper.old) (K.images keeper.new)
+            (WritesNext name.now self.old.number self.old.log (next_notes self.old.journal false self.old.log) result) }
         ensures ready { IsReady (K.images keeper.new) name.now self.new }
         ensures cause { CountsFault KeepError.Failed (K.faults keeper.old) (K.faults keeper.new) result }
         ensures number { self.new.number ≡ self.old.number }

@@ -6,7 +6,7 @@ ghost use Rattle.outside.specs.Keeper.{Appends};
 ghost use Rattle.store_image.specs.declared.record.ClientRecord.TheVariants.{Logged};
 ghost use Rattle.store_image.specs.Records.{client_records};
 ghost use Rattle.client_core.specs.Journal.{acked_notes, next_notes, journal_with, journal_after};
-ghost use Rattle.client_core.specs.Keeping.{KeepsNext};
+ghost use Rattle.client_core.specs.Keeping.{KeepsNext, WritesNext};
 ghost use Rattle.client_core.specs.Inside.{MayKeep, IsPiece, IsCountedBy};
 
 use mod_log::Log;
@@ -46,6 +46,8 @@ pub(crate) fn keep_log<K: Keeper>(
     requires counted { IsCountedBy (K.images keeper.old) name.now journal.old }
     ensures kept { Told (K.images keeper.old) (K.images keeper.new)
         (KeepsNext name.now client log.now (next_notes journal.old rose log.now) result) }
+    ensures writes { Told (K.images keeper.old) (K.images keeper.new)
+        (WritesNext name.now client log.now (next_notes journal.old rose log.now) result) }
     ensures journal { journal.new ≡ journal_after journal.old (next_notes journal.old rose log.now) log.now result }
     ensures counted { IsCountedBy (K.images keeper.new) name.now journal.new }
     ensures cause { CountsFault KeepError.Failed (K.faults keeper.old) (K.faults keeper.new) result }
@@ -92,6 +94,7 @@ fn save_log<K: Keeper>(
     requires low { 1 ≤ client }
     requires high { client ≤ 64 }
     ensures kept { Told (K.images keeper.old) (K.images keeper.new) (KeepsNext name.now client log.now None result) }
+    ensures writes { Told (K.images keeper.old) (K.images keeper.new) (WritesNext name.now client log.now None result) }
     ensures journal { journal.new ≡ journal_with 0 log.now result }
     ensures counted { IsCountedBy (K.images keeper.new) name.now journal.new }
     ensures cause { CountsFault KeepError.Failed (K.faults keeper.old) (K.faults keeper.new) result }
@@ -110,6 +113,7 @@ fn save_image<K: Keeper>(
     requires low { 1 ≤ client }
     requires high { client ≤ 64 }
     ensures kept { Told (K.images keeper.old) (K.images keeper.new) (KeepsNext name.now client log.now None result) }
+    ensures writes { Told (K.images keeper.old) (K.images keeper.new) (WritesNext name.now client log.now None result) }
     ensures cause { CountsFault KeepError.Failed (K.faults keeper.old) (K.faults keeper.new) result }
 {
     let image = match write_client(client, log) {

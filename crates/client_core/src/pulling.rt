@@ -46,7 +46,7 @@ pub enum PullEnd {
     },
     /// Eight asks failed.
     Unanswered,
-    /// The keeper failed. The server's rows are the client's base now, and what is kept is this log or the one before it.
+    /// The keeper failed. The server's rows are the client's base now. What is kept is its whole image, or each byte as it was before.
     KeepFault,
     /// Memory ran out. The log is as before, and so is what is kept; or it is as after a `KeepFault`.
     Memory,
@@ -84,7 +84,7 @@ impl Client {
         // what is kept is the client, or, where the pull was broken off, perhaps the client before it
         ensures keeps { PullKeeps route.now.image self.old.number self.old.log result self.new.log
             (K.images keeper.old) (K.images keeper.new) }
-        // the image is written just where the rows are not kept already
+        // the image is written just where the rows are not kept already; a save that is refused leaves all bytes, or this image
         ensures writes { PullWrites route.now.image self.old.number self.old.log result self.new.log
             (K.images keeper.old) (K.images keeper.new) }
         // where they are, neither the client nor the keeper is touched

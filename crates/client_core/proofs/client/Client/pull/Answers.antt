@@ -8,7 +8,7 @@ use Rattle.client_core.specs.declared.pulling.Pulling.TheVariants.{Ended}
 use Rattle.mod_log.specs.Log.{Log}
 use Rattle.client_core.specs.Inside.{PullLeaves, IsCountedBy}
 use Rattle.client_core.specs.Pulling.{IsKeptBase, PullEnds, is_broken_pull}
-use Rattle.client_core.specs.Keeping.{IsKept, IsReady, KeepsNext}
+use Rattle.client_core.specs.Keeping.{IsKept, IsReady, KeepsNext, WritesNext}
 use Rattle.client_core.specs.Causes.{HasPullCause, PullKeeps, PullWrites}
 use Rattle.client_core.specs.Goes.{Went}
 use Rattle.client_core.specs.Honest.{FromInStep, IsNotOlder}
@@ -237,7 +237,7 @@ returns-clause-writes g c =
     subst (λ (self : Client). PullWrites route.image self.number self.log c.pulled_end.result after i l) c.self.view_is
     (subst (λ (e : PullEnd). PullWrites route.image client before e after i l) (sym c.pulled_end.ensures)
     (pulled_writes route.image client before after i l c.in-Replaced.count r c.in-Replaced.ensures.leaves.2
-    (subst (λ (n : List ℕ). Told i l (KeepsNext n client after None r)) c.bytes.ensures.value c.keep_log-kept.ensures.kept)))
+    (subst (λ (n : List ℕ). Told i l (WritesNext n client after None r)) c.bytes.ensures.value c.keep_log-kept.ensures.writes)))
 
 pub returns-in-Ended-clause-writes : goal.returns-in-Ended-clause-writes
 returns-in-Ended-clause-writes g c =
