@@ -16,7 +16,7 @@ use Rattle.client_shelf.specs.declared.ends.Ending.{Ending}
 use Rattle.client_shelf.specs.declared.ends.Ending.TheVariants as ends
 use Rattle.client_shelf.specs.declared.ends.ShelvingStop.{ShelvingStop}
 use Rattle.client_shelf.specs.Shelving.{Shelving, appended_all}
-use Rattle.client_shelf.specs.Ending.{Standing, LeavesShelved, EndsBehind}
+use Rattle.client_shelf.specs.Ending.{Standing, LeavesShelved, StaysOrSaves, RefusesEntries, EndsBehind}
 use Rattle.client_shelf.specs.Inside.{TakesPulledRows, PullsTo, KeepsAll, LogsTo, GoesTo}
 use Rattle.client_shelf.proofs.Logged.{logs_in_step}
 
@@ -71,7 +71,17 @@ module _ (asked : Shelving) (start log : Log) (lists : List (List Effect)) (fit 
         record {
           asks = rows.asks;
           kept = front.1;
-          front = inr (rows.seen, front.0, rows.pulls, logged);
+          front = inr (
+            rows.seen,
+            front.0,
+            rows.pulls,
+            logged,
+            (
+              j,
+              subst (λ (l : Log). StaysOrSaves asked.new_image asked.new_client l i j) rows.log_is rows.saves,
+              subst (λ (l : Log). RefusesEntries asked.new_image asked.new_client lists l j k) rows.log_is keeps.2,
+            ),
+          );
           leaves = leaves_logged rows (take front.0 lists) (fits_front EffectsFit front.0 lists fit) front.1 logged front.3;
         },
       )

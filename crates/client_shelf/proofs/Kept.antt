@@ -6,19 +6,19 @@ use Rattle.std.proofs.lemmas.Bool.{true≢false}
 use Rattle.std.proofs.lemmas.Slice.Eq.{bytes_eq-Decides}
 use Rattle.std.proofs.lemmas.List.{append-nil, take_all}
 use Rattle.outside.specs.Outside.{Told}
-use Rattle.outside.specs.Keeper.{Images}
+use Rattle.outside.specs.Keeper.{Images, IsPut, followed_by}
 use Rattle.outside.specs.declared.errors.KeepError.{KeepError}
 use Rattle.tree_values.specs.declared.node.Effect.{Effect}
 use Rattle.mod_log.specs.declared.log.Entry.{Entry}
 use Rattle.mod_log.specs.Log.{Log}
 use Rattle.store_image.specs.declared.record.ClientRecord.{ClientRecord}
 use Rattle.store_image.specs.declared.record.ClientRecord.TheVariants.{Logged}
-use Rattle.store_image.specs.Records.{with_records}
+use Rattle.store_image.specs.Records.{client_records, with_records}
 use Rattle.store_image.specs.Image.{Keeps}
 use Rattle.store_image.proofs.Appended.{records_are_appended}
 use Rattle.client_core.specs.declared.keeping.Journal.{Journal}
 use Rattle.client_core.specs.Journal.{notes_since, may_add, next_notes}
-use Rattle.client_core.specs.Keeping.{IsKept, IsReady, IsReadyFor, IsSmall, StaysSmall, OthersStay, Kept, most_records, StillKeeps, AddsSome, LeavesKept, KeepsNext}
+use Rattle.client_core.specs.Keeping.{IsKept, IsReady, IsReadyFor, IsSmall, StaysSmall, OthersStay, Kept, most_records, StillKeeps, AddsSome, LeavesKept, KeepsNext, WritesNext}
 use Rattle.store_image.specs.declared.image.TheConstants.{MAX_CLIENT_IMAGE, MAX_RECORDS}
 use Rattle.world_rules.proofs.Asks.{told_start, told_as, told_then}
 use Rattle.client_core.specs.declared.pulling.PullEnd.{PullEnd}
@@ -26,7 +26,7 @@ use Rattle.client_core.specs.Causes.{PullKeeps}
 use Rattle.outside.specs.declared.errors.KeepError.TheVariants as keepers
 use Rattle.client_shelf.specs.Inside.{IsBreak, shelving_stop_by}
 use Rattle.client_shelf.specs.Shelving.{appended_all}
-use Rattle.client_shelf.specs.Ending.{ChangesOnly}
+use Rattle.client_shelf.specs.Ending.{ChangesOnly, RefusesEntries}
 use Rattle.client_shelf.proofs.Logged.{LogsAs, logs_as, logged_behind}
 use Rattle.client_shelf.proofs.Due.{keeps_once}
 
@@ -134,6 +134,14 @@ module _ (name : List ℕ) (number : ℕ) (lists : List (List Effect)) (log afte
     by_notes true (inr adds) = added adds
     by_notes false left = by_image x y kept left
 
+    -- and these bytes
+    wrote_notes : (may : Bool) (e : KeepError) → WritesNext {E = KeepError} name number after (if may then Some (notes_since journal false after) else None) (Err e) x y → RefusesEntries name number lists log (Some x) (Some y)
+    wrote_notes true e (inl same) = inl (ap Some same)
+    wrote_notes true e (inr put) =
+        inr (after, all, inr (put.0, subst (λ (notes : List ClientRecord). IsPut name (followed_by (take put.0 (client_records notes)) (x name)) x y) (notes_are ∙ sym (ap (map Logged) pending_is)) put.1))
+    wrote_notes false e (inl same) = inl (ap Some same)
+    wrote_notes false e (inr put) = inr (after, all, inl (inr put))
+
   by_journal : (journal : Option Journal) (x y : Images) → IsReady (Some x) name (record { number = number; log = log; journal = journal }) → Keeps (x name) number log
       → LeavesKept number after (next_notes journal false after) (x name) (y name) → KeepsSome number name lists log (Some y)
   by_journal None x y ready kept left = by_image x y kept left
@@ -145,6 +153,18 @@ module _ (name : List ℕ) (number : ℕ) (lists : List (List Effect)) (log afte
   some_kept journal e (Some x) None ready kept told = absurd told
   some_kept journal e None (Some y) ready kept told = absurd (cc)
   some_kept journal e None None ready kept told = (0, log, refl, tt)
+
+  wrote_journal : (journal : Option Journal) (e : KeepError) (x y : Images) → IsReady (Some x) name (record { number = number; log = log; journal = journal }) → Keeps (x name) number log
+      → WritesNext {E = KeepError} name number after (next_notes journal false after) (Err e) x y → RefusesEntries name number lists log (Some x) (Some y)
+  wrote_journal None e x y ready kept (inl same) = inl (ap Some same)
+  wrote_journal None e x y ready kept (inr put) = inr (after, all, inl (inr put))
+  wrote_journal (Some journal) e x y ready kept wrote = wrote_notes journal x y ready kept (may_add journal false after) e wrote
+
+  pub some_wrote : (journal : Option Journal) (e : KeepError) (i j : Option Images) → IsReady i name (record { number = number; log = log; journal = journal }) → IsKept i name number log
+      → Told i j (WritesNext {E = KeepError} name number after (next_notes journal false after) (Err e)) → RefusesEntries name number lists log i j
+  some_wrote journal e (Some x) (Some y) ready kept told = wrote_journal journal e x y ready kept told
+  some_wrote journal e (Some x) None ready kept told = absurd told
+  some_wrote journal e None j ready kept told = inl told
 
 -- what stops a shelving whose keeping was refused
 pub kept_break : (refused : KeepError) → IsBreak (shelving_stop_by refused)

@@ -20,12 +20,13 @@ use Rattle.client_core.specs.declared.pulling.PullEnd.{PullEnd}
 use Rattle.client_core.specs.declared.pulling.PullEnd.TheVariants as pulls
 use Rattle.client_core.specs.Trace.{Trace, asking, IsLastOrBefore}
 use Rattle.client_core.specs.Pulling.{PullChanges, PullTurn, BreaksPull, PullEnds, is_broken_pull}
+use Rattle.client_core.specs.Causes.{PullWrites}
 use Rattle.client_core.specs.Honest.{IsTruePull}
 use Rattle.client_core.specs.Goes.{Goes, WorldGoes, Went, no_runner, stand}
 use Rattle.client_core.proofs.Going.{kept_now}
 use Rattle.client_shelf.specs.declared.ends.ShelvingStop.TheVariants as stops
 use Rattle.client_shelf.specs.Shelving.{Shelving, new_route, IsUnused}
-use Rattle.client_shelf.specs.Ending.{Standing, LeavesShelved, EndsPull, KeepsFront, ShelvingBreaks}
+use Rattle.client_shelf.specs.Ending.{Standing, LeavesShelved, StaysOrSaves, EndsPull, KeepsFront, ShelvingBreaks}
 use Rattle.client_shelf.specs.Inside.{PullsTo, pulled_to}
 use Rattle.client_shelf.proofs.Kept.{kept_same}
 
@@ -104,13 +105,14 @@ module _ (asked : Shelving) (start after : Log) (unused : IsUnused start) (i j :
   as_before kept changes told none = kept_same asked.new_image asked.new_client kept changes none i j told
 
   -- a pull that was broken off
-  breaks : (kept : Log) (turns : Trace → Type 0) (goes : GoesSo turns kept) → BreaksPull asked.new_client (new_route asked) start after goes.trace → (lists : List (List Effect)) → ShelvingBreaks asked start lists old new
-  breaks kept turns goes (inl asking) lists =
+  breaks : (kept : Log) (turns : Trace → Type 0) (goes : GoesSo turns kept) → StaysOrSaves asked.new_image asked.new_client after i j → BreaksPull asked.new_client (new_route asked) start after goes.trace
+      → (lists : List (List Effect)) → ShelvingBreaks asked start lists old new
+  breaks kept turns goes saves (inl asking) lists =
       let trace_is = asking.4 in
       record {
         asks = goes.trace.asks;
         kept = kept;
-        front = inl (unchanged_kept goes.trace.changes (ap (λ (x : Trace). x.changes) trace_is) goes.keeping.behind, (after, goes.trace, inl asking, refl, as_before kept goes.trace.changes goes.keeping.told));
+        front = inl (unchanged_kept goes.trace.changes (ap (λ (x : Trace). x.changes) trace_is) goes.keeping.behind, (after, goes.trace, inl asking, refl, as_before kept goes.trace.changes goes.keeping.told, saves));
         leaves = leaves turns kept goes (ap (λ (x : Trace). x.entries) trace_is);
       }
     where
@@ -120,7 +122,7 @@ module _ (asked : Shelving) (start after : Log) (unused : IsUnused start) (i j :
           by : IsLastOrBefore start [] kept → kept ≡ start
           by (inl last) = last
           by (inr before) = before
-  breaks kept turns goes (inr pulled) lists =
+  breaks kept turns goes saves (inr pulled) lists =
       let count = pulled.0 in
       let came = pulled.1 in
       let trace_is = came.trace_is in
@@ -139,16 +141,23 @@ module _ (asked : Shelving) (start after : Log) (unused : IsUnused start) (i j :
 
       by : (count : ℕ) (seen : Volume) → after ≡ new_log_of 0 seen → PullTurn asked.new_client (new_route asked) start (pulls.Pulled count) (new_log_of 0 seen) goes.trace → IsLastOrBefore start (after ∷ []) kept
           → KeepsFront asked start lists kept goes.trace.asks old new
-      by count seen rows turn (inl last) = inr (seen, 0, (count, (goes.trace, turn, refl)), ap Ok (sym (last ∙ rows)))
-      by count seen rows turn (inr before) = inl (before, (after, goes.trace, inr pulled, refl, as_before kept goes.trace.changes goes.keeping.told))
+      by count seen rows turn (inl last) =
+          inr (seen, 0, (count, (goes.trace, turn, refl)), ap Ok (sym (last ∙ rows)), (j, subst (λ (l : Log). StaysOrSaves asked.new_image asked.new_client l i j) rows saves, inl refl))
+      by count seen rows turn (inr before) = inl (before, (after, goes.trace, inr pulled, refl, as_before kept goes.trace.changes goes.keeping.told, saves))
+
+  -- the image of the log was put, unless its rows are kept already
+  pulled_saves : (count : ℕ) → PullWrites asked.new_image asked.new_client start (pulls.Pulled count) after i j → StaysOrSaves asked.new_image asked.new_client after i j
+  pulled_saves count (inl kept) = inl kept.1
+  pulled_saves count (inr put) = inr put.1
 
   pub pull_went : (end : PullEnd) → Went asked.new_client false asked.new_image (PullEnds asked.new_client (new_route asked) start end after) start after i j t u
-      → (is_broken_pull end ≡ false → ((count : ℕ) → end ≢ pulls.Pulled count) → j ≡ i) → ((count : ℕ) → end ≢ pulls.Pending count) → PullsTo asked start after (pulled_to end) old new
-  pull_went end went same waits = by end went.0 went.1 went.1.turn same waits
+      → (is_broken_pull end ≡ false → ((count : ℕ) → end ≢ pulls.Pulled count) → j ≡ i) → ((count : ℕ) → end ≢ pulls.Pending count)
+      → PullWrites asked.new_image asked.new_client start end after i j → PullsTo asked start after (pulled_to end) old new
+  pull_went end went same waits writes = by end went.0 went.1 went.1.turn same waits writes
     where
       by : (end : PullEnd) (kept : Log) (goes : GoesSo (Turns end kept) kept) → Turns end kept goes.trace → (is_broken_pull end ≡ false → ((count : ℕ) → end ≢ pulls.Pulled count) → j ≡ i)
-          → ((count : ℕ) → end ≢ pulls.Pending count) → PullsTo asked start after (pulled_to end) old new
-      by (pulls.Pulled count) kept goes (inl turn) same waits =
+          → ((count : ℕ) → end ≢ pulls.Pending count) → PullWrites asked.new_image asked.new_client start end after i j → PullsTo asked start after (pulled_to end) old new
+      by (pulls.Pulled count) kept goes (inl turn) same waits writes =
           let came = turn.0 in
           let rows : after ≡ new_log_of 0 came.seen = rows_are came.seen came.met.3 in
           record {
@@ -157,34 +166,35 @@ module _ (asked : Shelving) (start after : Log) (unused : IsUnused start) (i j :
             pulls = (count, (goes.trace, subst (λ (l : Log). PullTurn asked.new_client (new_route asked) start (pulls.Pulled count) l goes.trace) rows came, refl));
             log_is = rows;
             leaves = subst (λ (l : Log). LeavesShelved asked start l goes.trace.asks old new) turn.1 (leaves (Turns (pulls.Pulled count) kept) kept goes (ap (λ (x : Trace). x.entries) came.trace_is));
+            saves = pulled_saves count writes;
           }
-      by (pulls.Pulled count) kept goes (inr broken) same waits = absurd (cc (broken.0))
-      by (pulls.OtherLast last acked) kept goes (inl turn) same waits = λ stuck lists.
+      by (pulls.Pulled count) kept goes (inr broken) same waits writes = absurd (cc (broken.0))
+      by (pulls.OtherLast last acked) kept goes (inl turn) same waits writes = λ stuck lists.
           let came = turn.0 in
           let none : acked ≡ 0 = came.met.2 ∙ unused.0 in
           subst (λ (n : ℕ). EndsPull asked start (pulls.OtherLast last n) old new) none
           (ends_pull (pulls.OtherLast last acked) kept goes came (same refl (λ count is. cc)) came.met.3 turn.1 (ap (λ (x : Trace). x.entries) came.trace_is)
           (true_pull (Turns (pulls.OtherLast last acked) kept) kept goes (ap (λ (x : Trace). x.entries) came.trace_is) (pulls.OtherLast last acked)
           (subst (λ (x : Trace). IsIn (pulls.OtherLast last acked) x.pulls) (sym came.trace_is) (inl refl))))
-      by (pulls.OtherLast last acked) kept goes (inr broken) same waits = absurd (cc (broken.0))
-      by (pulls.Older path theirs ours) kept goes (inl turn) same waits = λ stuck lists.
+      by (pulls.OtherLast last acked) kept goes (inr broken) same waits writes = absurd (cc (broken.0))
+      by (pulls.Older path theirs ours) kept goes (inl turn) same waits writes = λ stuck lists.
           let came = turn.0 in
           ends_pull (pulls.Older path theirs ours) kept goes came (same refl (λ count is. cc)) came.met.4 turn.1 (ap (λ (x : Trace). x.entries) came.trace_is)
           (true_pull (Turns (pulls.Older path theirs ours) kept) kept goes (ap (λ (x : Trace). x.entries) came.trace_is) (pulls.Older path theirs ours)
           (subst (λ (x : Trace). IsIn (pulls.Older path theirs ours) x.pulls) (sym came.trace_is) (inl refl)))
-      by (pulls.Older path theirs ours) kept goes (inr broken) same waits = absurd (cc (broken.0))
-      by pulls.Unanswered kept goes (inl turn) same waits = λ stuck lists.
+      by (pulls.Older path theirs ours) kept goes (inr broken) same waits writes = absurd (cc (broken.0))
+      by pulls.Unanswered kept goes (inl turn) same waits writes = λ stuck lists.
           let asks = turn.0.1 in
           let trace_is = asks.3 in
           let none : goes.trace.entries ≡ [] = ap (λ (x : Trace). x.entries) trace_is in
           ends_pull pulls.Unanswered kept goes turn.0 (same refl (λ count is. cc)) asks.2 turn.1 none
           (any_pull (Turns pulls.Unanswered kept) kept goes none pulls.Unanswered ((λ last acked is. cc), λ calm path theirs ours is. cc))
-      by pulls.Unanswered kept goes (inr broken) same waits = absurd (cc (broken.0))
-      by pulls.KeepFault kept goes (inl turn) same waits = absurd turn.0.met
-      by pulls.KeepFault kept goes (inr broken) same waits = (inl refl, breaks kept (Turns pulls.KeepFault kept) goes broken.1)
-      by pulls.Memory kept goes (inl turn) same waits = absurd turn.0.met
-      by pulls.Memory kept goes (inr broken) same waits = (inr refl, breaks kept (Turns pulls.Memory kept) goes broken.1)
-      by (pulls.Pending count) kept goes turn same waits = absurd (waits count refl)
+      by pulls.Unanswered kept goes (inr broken) same waits writes = absurd (cc (broken.0))
+      by pulls.KeepFault kept goes (inl turn) same waits writes = absurd turn.0.met
+      by pulls.KeepFault kept goes (inr broken) same waits writes = (inl refl, breaks kept (Turns pulls.KeepFault kept) goes writes broken.1)
+      by pulls.Memory kept goes (inl turn) same waits writes = absurd turn.0.met
+      by pulls.Memory kept goes (inr broken) same waits writes = (inr refl, breaks kept (Turns pulls.Memory kept) goes writes broken.1)
+      by (pulls.Pending count) kept goes turn same waits writes = absurd (waits count refl)
 
 -- a pull that was not begun
 module _ (asked : Shelving) (start : Log) (unused : IsUnused start) (i : Option Images) (t : LinkTelling) (kept : IsKept i asked.new_image asked.new_client start) where
@@ -201,5 +211,5 @@ module _ (asked : Shelving) (start : Log) (unused : IsUnused start) (i : Option 
   pub pull_unbegun : PullsTo asked start start (Err stops.Memory) same same
   pull_unbegun = (
     inr refl,
-    λ lists. record { asks = []; kept = start; front = inl (refl, (start, asking [], inl ([], unused.1, refl, (0, omega arith, inl refl), refl), refl, λ none. refl)); leaves = nothing_left },
+    λ lists. record { asks = []; kept = start; front = inl (refl, (start, asking [], inl ([], unused.1, refl, (0, omega arith, inl refl), refl), refl, (λ none. refl), inl refl)); leaves = nothing_left },
   )

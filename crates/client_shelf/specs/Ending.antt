@@ -1,14 +1,17 @@
 -- How a shelving ends, and what it leaves, by its status.
-use Rattle.std.specs.Prelude.{◌≡◌, ◌==◌, ◌⊎◌, ℕ, ◌≤◌, Bool, List, [], ◌∷◌, ◌++◌, length, take, Option, Ok, Err, IsTrue}
+use Rattle.std.specs.Prelude.{◌≡◌, ◌==◌, ◌⊎◌, ℕ, ◌≤◌, Bool, List, [], ◌∷◌, ◌++◌, length, take, map, Option, Ok, Err, IsTrue}
 use Rattle.std.specs.List.{list_any}
 use Rattle.outside.specs.Outside.{Told, Adds, RisesWhere}
-use Rattle.outside.specs.Keeper.{Images}
+use Rattle.outside.specs.Keeper.{Images, IsPut, followed_by}
 use Rattle.outside.specs.declared.sink.Sink.{Ghosts as SinkWords}
 use Rattle.outside.specs.declared.keeper.Keeper.{Ghosts as KeeperWords}
 use Rattle.tree_values.specs.Tree.{Volume}
 use Rattle.tree_values.specs.declared.node.Effect.{Effect}
 use Rattle.mod_log.specs.declared.log.LogError.{LogError}
 use Rattle.mod_log.specs.Log.{Log, new_log_of}
+use Rattle.store_image.specs.declared.record.ClientRecord.TheVariants.{Logged}
+use Rattle.store_image.specs.Records.{client_records}
+use Rattle.store_image.specs.Spelling.{client as client_image}
 use Rattle.world_rules.specs.declared.asking.Ask.{Ask}
 use Rattle.world_rules.specs.declared.link.Link.{Ghosts as LinkWords}
 use Rattle.world_rules.specs.Telling.{LinkTelling, ToldWorlds, HadTroubles}
@@ -18,7 +21,7 @@ use Rattle.client_core.specs.declared.pulling.PullEnd.{PullEnd}
 use Rattle.client_core.specs.declared.pulling.PullEnd.TheVariants as pulls
 use Rattle.client_core.specs.Trace.{Trace}
 use Rattle.client_core.specs.Pulling.{PullTurn, BreaksPull}
-use Rattle.client_core.specs.Keeping.{IsKept, OthersStay, StaysSmall}
+use Rattle.client_core.specs.Keeping.{IsKept, OthersStay, StaysSmall, StaysOrPuts}
 use Rattle.client_core.specs.Honest.{IsTruePull}
 use Rattle.conflict_shelf.specs.Shelf.{names_in}
 use Rattle.client_shelf.specs.declared.ends.Ending.{Ending}
@@ -51,11 +54,31 @@ Pulls asked start end after asks =
 abbrev pub PullsRows : Shelving → Log → Volume → List Ask → Type 0
 PullsRows asked start seen asks = (count : ℕ) × Pulls asked start (pulls.Pulled count) (new_log_of 0 seen) asks
 
--- it was broken off; where it had taken no rows, all that is kept is as before
+-- all that is kept is as before, or the whole image of the client with this log was put under the name
+abbrev pub StaysOrSaves : List ℕ → ℕ → Log → Option Images → Option Images → Type 0
+StaysOrSaves name number log images now = StaysOrPuts name (client_image (record { client = number; log = log })) images now
+
+-- it was broken off: all that is kept is as before, or, where it had taken rows, the new client's whole image on them was put there
 abbrev pub PullBreaks : Shelving → Log → List Ask → Standing → Standing → Type 0
 PullBreaks asked start asks old new =
     (after : Log) × (trace : Trace) × BreaksPull asked.new_client (new_route asked) start after trace × (asks ≡ trace.asks)
-    × (trace.changes ≡ [] → new.images ≡ old.images)
+    × (trace.changes ≡ [] → new.images ≡ old.images) × StaysOrSaves asked.new_image asked.new_client after old.images new.images
+
+-- All that is kept is as before. Or all of these entries were logged behind the log, and keeping them was refused: the whole image with them
+-- was put under the name, or a front of their records behind what stood there.
+abbrev pub RefusesEntries : List ℕ → ℕ → List (List Effect) → Log → Option Images → Option Images → Type 0
+RefusesEntries name number lists log images now =
+    (now ≡ images) ⊎ ((all : Log) × (appended_all lists log ≡ Ok all)
+    × (StaysOrSaves name number all images now
+    ⊎ ((count : ℕ) × Told images now
+    (λ old new. IsPut name (followed_by (take count (client_records (map Logged all.pending))) (old name)) old new))))
+
+-- Which bytes a shelving leaves that was broken off once it had pulled these rows: first those before, or the new client's whole image on
+-- the rows; then these, or what a refused keeping of the entries makes of them.
+abbrev pub LeavesBytes : Shelving → List (List Effect) → Volume → Standing → Standing → Type 0
+LeavesBytes asked lists seen old new =
+    (middle : Option Images) × StaysOrSaves asked.new_image asked.new_client (new_log_of 0 seen) old.images middle
+    × RefusesEntries asked.new_image asked.new_client lists (new_log_of 0 seen) middle new.images
 
 -- Where the new client's log was `start`, and these asks were made, `kept` is kept of it. The troubles of the link rose by at least the
 -- asks that failed. Where it tells its world, that noted just these asks, and what is kept is in step with it, if the log was at first.
@@ -97,7 +120,8 @@ pub record EndsKept (asked : Shelving) (start : Log) (lists : List (List Effect)
 abbrev pub KeepsFront : Shelving → Log → List (List Effect) → Log → List Ask → Standing → Standing → Type 0
 KeepsFront asked start lists kept asks old new =
     ((kept ≡ start) × PullBreaks asked start asks old new)
-    ⊎ ((seen : Volume) × (count : ℕ) × PullsRows asked start seen asks × (appended_all (take count lists) (new_log_of 0 seen) ≡ Ok kept))
+    ⊎ ((seen : Volume) × (count : ℕ) × PullsRows asked start seen asks × (appended_all (take count lists) (new_log_of 0 seen) ≡ Ok kept)
+    × LeavesBytes asked lists seen old new)
 
 -- The pull was begun, and it, the logging or the keeping broken off.
 pub record ShelvingBreaks (asked : Shelving) (start : Log) (lists : List (List Effect)) (old new : Standing) : Type 0 where

@@ -27,7 +27,8 @@ use Rattle.client_shelf.specs.declared.ends.Ending.TheVariants as ends
 use Rattle.client_shelf.specs.declared.ends.ShelvingStop.{ShelvingStop}
 use Rattle.client_shelf.specs.declared.ends.ShelvingStop.TheVariants.{Sink, Keeper, Image, Memory}
 use Rattle.client_shelf.specs.Shelving.{Shelving, IsAbsent, IsStored, IsStoredOther, IsUnused, IsUsed, planned_in, planned, appended_all}
-use Rattle.client_shelf.specs.Ending.{Standing, LeavesShelved, PullsRows, EndsKept, EndsBehind, ShelvingBreaks, Stops, ComesToEnd}
+use Rattle.client_shelf.specs.Ending.{Standing, LeavesShelved, PullsRows, StaysOrSaves, RefusesEntries}
+use Rattle.client_shelf.specs.Ending.{EndsKept, EndsBehind, ShelvingBreaks, Stops, ComesToEnd}
 
 -- ---- what stops a shelving
 
@@ -98,13 +99,14 @@ pulled_to pulls.KeepFault = Err Keeper
 pulled_to pulls.Memory = Err Memory
 pulled_to (pulls.Pending count) = Err Memory
 
--- The rows were pulled, and the log is that.
+-- The rows were pulled, and the log is that. Its image was put under the new name, or all that is kept is as before.
 pub record TakesPulledRows (asked : Shelving) (start log : Log) (old new : Standing) : Type 0 where
   pub asks : List Ask
   pub seen : Volume
   pub pulls : PullsRows asked start seen asks
   pub log_is : log ≡ new_log_of 0 seen
   pub leaves : LeavesShelved asked start log asks old new
+  pub saves : StaysOrSaves asked.new_image asked.new_client log old.images new.images
 
 -- the rows were pulled; or it came to this end, or was stopped so
 abbrev pub PullsTo : Shelving → Log → Log → Result (Option Ending) ShelvingStop → Standing → Standing → Type 0
@@ -121,6 +123,7 @@ KeepsAll number name lists log (Ok (Some ending)) images now =
     (refusal : LogError) × (ending ≡ ends.Unlogged refusal) × (appended_all lists log ≡ Err refusal) × (now ≡ images)
 KeepsAll number name lists log (Err stop) images now =
     IsBreak stop × ((count : ℕ) × (kept : Log) × (appended_all (take count lists) log ≡ Ok kept) × IsKept now name number kept)
+    × RefusesEntries name number lists log images now
 
 -- the entries are kept behind the rows that were pulled; or it came to this end, or was stopped so
 abbrev pub LogsTo : Shelving → Log → List (List Effect) → Result (Option Ending) ShelvingStop → Standing → Standing → Type 0

@@ -4,7 +4,7 @@ use Rattle.client_core.specs.declared.route.Route.{Route}
 use Rattle.client_core.specs.Keeping.{IsKept}
 use Rattle.client_core.specs.Pulling.{PullEnds}
 use Rattle.client_core.specs.Goes.{Went}
-use Rattle.client_core.specs.Causes.{HasPullCause}
+use Rattle.client_core.specs.Causes.{HasPullCause, PullWrites}
 use Rattle.client_shelf.specs.declared.ends.Ending.{Ending}
 use Rattle.client_shelf.specs.declared.ends.ShelvingStop.{ShelvingStop}
 use Rattle.client_shelf.specs.Shelving.{Shelving, said, new_route}
@@ -34,6 +34,8 @@ returns-in-Ok-clause-did g c =
     let q = g.K.Keeper.faults c.pull-end.new.keeper in
     let routed = subst (λ (r : Route). Went number (is_some r.surrogate) r.image (PullEnds number r start end after) start after i j t u) c.in-Ok.ensures c.pull-end.ensures.did in
     let went = subst (λ (n : ℕ). Went n (is_some (new_route asked).surrogate) asked.new_image (PullEnds n (new_route asked) start end after) start after i j t u) c.requires.number routed in
+    let written = subst (λ (r : Route). PullWrites r.image number start end after i j) c.in-Ok.ensures c.pull-end.ensures.writes in
+    let writes = subst (λ (n : ℕ). PullWrites asked.new_image n start end after i j) c.requires.number written in
     subst (λ (r : Result (Option Ending) ShelvingStop). PullsTo asked start after r (record { images = i; link = t }) (record { images = j; link = u })) (sym c.ended.ensures)
     (pull_went asked start after c.requires.unused i j t u end went (λ whole none. (c.pull-end.ensures.unchanged whole none).1)
-    (λ count is. let cause = subst (λ (e : PullEnd). HasPullCause e start after t.troubles u.troubles p q) is c.pull-end.ensures.cause in cause.0 c.requires.unused.1))
+    (λ count is. let cause = subst (λ (e : PullEnd). HasPullCause e start after t.troubles u.troubles p q) is c.pull-end.ensures.cause in cause.0 c.requires.unused.1) writes)
