@@ -1,7 +1,7 @@
 -- A number is carried from part to part.
 use Rattle.std.proofs.Common.{◌≡◌, ℕ, suc, ◌+◌, ◌-◌, ◌*◌, ◌/◌, ◌%◌, ◌<◌, ◌≤◌, List, [], ◌∷◌, ◌++◌, length, get_or, take, drop, set, arith, refl, sym, ap, ◌∙◌}
 use Rattle.std.specs.List.{concat, insert, remove}
-use Rattle.std.proofs.lemmas.List.{append_assoc, append-nil, drop_more, take_more, take_more_set, take-set, drop-set, drop-set-lt, take_all, drop_all, length-append, same_from_push, take-append-drop, take_at, length_push}
+use Rattle.std.proofs.lemmas.List.{append_assoc, append-nil, drop_more, take_more, take_more_set, take-set, drop-set, drop-set-lt, take_all, drop_all, length-append, same_from_push, take-append-drop, length_push}
 use Rattle.std.proofs.lemmas.List.Folds.{concat-append}
 use Rattle.std.proofs.lemmas.List.Edits.{insert-append_left, insert-append_right, remove-append_left, remove-append_right, length-remove, length-insert}
 use Rattle.parted_list.specs.Parts.{part_size}
@@ -115,10 +115,6 @@ between_length parts i x =
 -- a number put in before one that leaves
 pub inserted : (old new : List ℕ) (k x y z : ℕ) → k ≤ length old → new ++ y ∷ [] ≡ insert (old ++ z ∷ []) k x → new ≡ insert old k x
 inserted old new k x y z within is = (same_from_push new (insert old k x) y z (is ∙ insert-append_left old (z ∷ []) k x within)).0
-
--- what is left once the last has gone
-pub without_last : (s : List ℕ) (x : ℕ) → take (length (s ++ x ∷ []) - 1) (s ++ x ∷ []) ≡ s
-without_last s x = take_at s (x ∷ []) (length (s ++ x ∷ []) - 1) (omega (arith, length_push s x))
 
 pub added_last : (parts : List (List ℕ)) (i : ℕ) (x : ℕ) → i + 1 ≡ length parts → concat (set parts i (part parts i ++ x ∷ [])) ≡ concat parts ++ x ∷ []
 added_last parts i x last =

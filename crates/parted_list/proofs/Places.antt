@@ -2,7 +2,7 @@
 use Rattle.std.proofs.Common.{◌≡◌, ℕ, zero, suc, ◌+◌, ◌-◌, ◌*◌, ◌/◌, ◌%◌, ◌<◌, ◌≤◌, List, [], ◌∷◌, ◌++◌, length, get_or, take, set, inl, inr, arith, refl, sym, ap, ◌∙◌, subst}
 use Rattle.std.specs.List.{concat}
 use Rattle.std.proofs.lemmas.Bool.{cases_lt, cases_eq}
-use Rattle.std.proofs.lemmas.List.{length-append, length-set, get_or-set_same, get_or-set_other, get_or_append_left, get_or_at, get_or_past, length_push, get_or-take, length-take-le, get_or_read}
+use Rattle.std.proofs.lemmas.List.{length-append, length-set, get_or-set_same, get_or-set_other, get_or_read}
 use Rattle.std.proofs.lemmas.List.Concat.{get_or-flat_map, concat_is}
 use Rattle.parted_list.specs.Parts.{AreParted, part_size}
 
@@ -118,40 +118,3 @@ last_parted parts i q parted last some fits = record {
     | inr other ↦ rw (get_or-set_other parts i j q [] other) (parted.fitting j)
   ];
 }
-
-pub none_parted : AreParted []
-none_parted = record { full = λ i l. absurd (omega arith); some = λ i l. absurd (omega arith); fitting = λ i. omega arith }
-
-pub more_parted : (parts : List (List ℕ)) (x : ℕ) → AreParted parts → (0 < length parts → part_size ≤ length (part parts (length parts - 1))) → AreParted (parts ++ (x ∷ []) ∷ [])
-more_parted parts x parted full = record {
-  full = λ i l. rw (get_or_append_left parts ((x ∷ []) ∷ []) [] i (omega (arith, length_push parts (x ∷ [])))) (elim (cases_eq (i + 1) (length parts)) [
-    | inl last ↦
-        let fits = parted.fitting i in
-        let here : length parts - 1 ≡ i = omega arith in
-        let filled = rw here at (full (omega arith)) in
-        omega (arith, fits, filled)
-    | inr other ↦ parted.full i (omega (arith, length_push parts (x ∷ [])))
-  ]);
-  some = λ i l. elim (cases_lt i (length parts)) [
-    | inl before ↦ rw (get_or_append_left parts ((x ∷ []) ∷ []) [] i before) (parted.some i before)
-    | inr past ↦ rw (get_or_at parts (x ∷ []) [] [] i (omega (arith, length_push parts (x ∷ [])))) (omega arith)
-  ];
-  fitting = λ i. elim (cases_lt i (length parts)) [
-    | inl before ↦ rw (get_or_append_left parts ((x ∷ []) ∷ []) [] i before) (parted.fitting i)
-    | inr past ↦ elim (cases_eq i (length parts)) [
-      | inl here ↦ rw (get_or_at parts (x ∷ []) [] [] i (sym here)) (omega arith)
-      | inr other ↦ rw (get_or_past (parts ++ (x ∷ []) ∷ []) i [] (omega (arith, length_push parts (x ∷ [])))) (omega arith)
-    ]
-  ];
-}
-
-pub front_parted : (parts : List (List ℕ)) (n : ℕ) → AreParted parts → n ≤ length parts → AreParted (take n parts)
-front_parted parts n parted within =
-    let size = length-take-le n parts within in record {
-      full = λ i l. rw (get_or-take n parts i [] (omega arith)) (parted.full i (omega arith));
-      some = λ i l. rw (get_or-take n parts i [] (omega arith)) (parted.some i (omega arith));
-      fitting = λ i. elim (cases_lt i n) [
-        | inl before ↦ rw (get_or-take n parts i [] before) (parted.fitting i)
-        | inr past ↦ rw (get_or_past (take n parts) i [] (omega arith)) (omega arith)
-      ];
-    }
