@@ -67,12 +67,6 @@ module _ (block parity given x sums row : List ℕ) (degree : ℕ)
     (own : IsCodeWord (symbols block ++ given)) (repair : IsRepair block parity x)
     (are_sums : AreSums (zip_sum given parity) sums) (degree_small : degree < 17) (monic : IsMonicRow degree row)
     (annihilates : (e : ℕ) → e < 16 → pairing row (drop e sums) ≡ 0) where
-  places : ℕ
-  places = length (symbols block)
-
-  bound : ℕ
-  bound = length (symbols block) + 32
-
   long : length (symbols block) ≡ length (symbols x)
   long = omega (arith, length-symbols block, length-symbols x, repair.size)
 

@@ -10,7 +10,7 @@ use Rattle.gf_65536.specs.Field.{gf_mul}
 use Rattle.gf_65536.proofs.Linear.{xor_swap}
 use Rattle.gf_65536.proofs.Product.{mul_left, mul_right, mul_assoc, mul_comm, mul_one, mul_below, mul_zero, zero_mul}
 use Rattle.rs_parity.specs.CodeWord.{sum_at}
-use Rattle.rs_repair.specs.Inside.{pairing, IsMonicRow, IsPlusMultiple, AreMonomials, IsBasis, AreCleared, IsClearedAbove}
+use Rattle.rs_repair.specs.Inside.{pairing, IsMonicRow, IsPlusMultiple, IsBasis, AreCleared, IsClearedAbove}
 use Rattle.rs_repair.proofs.Locate.{annihilated}
 
 -- a multiple added to a row is added to its pairing
@@ -113,18 +113,6 @@ monomial_is d h = record {
 }
 
 -- ---- one place more
-
-pub basis_start : (sums : List ℕ) (basis : List (List ℕ)) → AreMonomials basis → IsBasis 0 sums basis (replicate 17 0)
-basis_start sums basis m = record { size = m.size; marks_size = refl; rows = m.rows; zeros = λ i h z e below. absurd (omega arith); few_marks = omega arith }
-
-pub basis_same : (place : ℕ) (sums : List ℕ) (basis : List (List ℕ)) (marks : List ℕ) → IsBasis place sums basis marks → AreCleared 17 17 place sums basis marks → IsBasis (place + 1) sums basis marks
-basis_same place sums basis marks b cleared = record {
-  size = b.size;
-  marks_size = b.marks_size;
-  rows = b.rows;
-  zeros = λ i h z. below_more (λ e. pairing (get_or basis i []) (drop e sums) ≡ 0) place (b.zeros i h z) (cleared i h h z (λ e. absurd (omega arith)));
-  few_marks = omega (arith, b.few_marks);
-}
 
 sum_mark : (marks : List ℕ) (i : ℕ) → sum (set marks i 1) ≤ sum marks + 1
 sum_mark [] i = omega arith

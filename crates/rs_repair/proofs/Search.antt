@@ -23,9 +23,6 @@ roots_skip row items e r some = record {
 }
 
 module _ (row items : List ℕ) (e : ℕ) (r : AreRoots row e items) (zero_at : value row (gf_pow 2 e) ≡ 0) where
-  new : List ℕ
-  new = items ++ e ∷ []
-
   old_at : (i : ℕ) → i < length items → get_or (items ++ e ∷ []) i 0 ≡ get_or items i 0
   old_at i h = get_or_append_left items (e ∷ []) 0 i h
 
