@@ -75,11 +75,6 @@ pub front_unchanged : {A E : Type 0} (r : Result A E) (old new spelling : List �
 front_unchanged (Ok x) old new spelling same = tt
 front_unchanged (Err e) old new spelling same = front_none old new spelling same
 
--- a kind, a whole part behind it, and a front of the next part
-pub front_behind_kind : (old kinded middle new : List ℕ) (kind : ℕ) (a b : List ℕ) → kinded ≡ old ++ kind ∷ [] → middle ≡ kinded ++ a → IsFront middle new b → IsFront old new ((kind ∷ a) ++ b)
-front_behind_kind old kinded middle new kind a b tagged whole f =
-    front_second old middle new (kind ∷ a) b (whole ∙ ap (λ (t : List ℕ). t ++ a) tagged ∙ append_assoc old (kind ∷ []) a) f
-
 -- two whole parts, and a front of the third
 pub front_third : (old one two new a b c : List ℕ) → one ≡ old ++ a → two ≡ one ++ b → IsFront two new c → IsFront old new (a ++ (b ++ c))
 front_third old one two new a b c first second f = front_second old one new a (b ++ c) first (front_second one two new b c second f)

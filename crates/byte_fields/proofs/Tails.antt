@@ -226,11 +226,3 @@ faulty_records item after spelling state before text offset each small refused =
 pub left_bytes : {S A : Type 0} → LeftBytesAreRefused S A
 left_bytes item after spelling state before text left x each small is some =
     all_refused item after spelling before state (text ++ left) (4 + length text) each small (left_refused (item (passed after state before)) text left x is some small)
-
--- every codec gives the premise of the law that nothing else is read
-pub codec_reads : {A : Type 0} {read : Reader A} {s : A → List ℕ} {F : A → Type 0} → IsCodec read s F → IsCodec read s (λ x. IsRead read (s x) x)
-codec_reads codec = record {
-  found = λ bytes at x next fits le e. let r = codec.found bytes at x next fits le e in (r.0, λ bytes' at' next' stands. codec.again bytes' at' x next' stands r.1);
-  again = λ bytes at x next stands is. is bytes at next stands;
-  fault = codec.fault;
-}
