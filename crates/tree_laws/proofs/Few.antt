@@ -1,13 +1,11 @@
 -- The paths that effects touch are few, so that their number fits its field.
 use Rattle.std.proofs.Common.{◌*◌, ◌^◌, ◌<◌, ◌≤◌, not, List, [], ◌∷◌, length, ap, arith, length-append}
 use Rattle.std.specs.List.{flat_map}
-use Rattle.std.proofs.lemmas.List.{length-map}
 use Rattle.std.proofs.lemmas.List.Concat.{flat_map-cons}
 use Rattle.byte_fields.proofs.Facts.{filter_length}
 use Rattle.byte_fields.specs.Codec.{IsCodec}
 use Rattle.tree_values.specs.declared.node.Effect.{Effect}
 use Rattle.tree_values.specs.declared.node.Effect.TheVariants.{Make, Put, Remove, Move, Mode}
-use Rattle.tree_values.specs.declared.node.Base.{Base}
 use Rattle.file_paths.specs.Path.{FilePath, is_same_path}
 use Rattle.tree_values.specs.Tree.{touched_paths}
 use Rattle.tree_values.specs.Effects.{touched_all, distinct}
@@ -33,11 +31,6 @@ all_touches_length (e ∷ es) =
 
 pub touched_few : (es : List Effect) → EffectsFit es → length (distinct (touched_all es)) < 2 ^ 32
 touched_few es fits = omega (arith, distinct_length (touched_all es), all_touches_length es, fits.few)
-
--- for each effect at most two
-pub few_bases : (es : List Effect) (bs : List Base) → AreBasesOf (distinct (touched_all es)) bs → EffectsFit es → length bs ≤ 8192
-few_bases es bs are fits =
-    omega (arith, length-map bs (λ (b : Base). b.path), ap length are.0, distinct_length (touched_all es), all_touches_length es, fits.few)
 
 -- the versions of the touched paths are spelled once
 pub bases_of : (es : List Effect) → EffectsFit es → IsCodec (bases_at (distinct (touched_all es))) bases (AreBasesOf (distinct (touched_all es)))
