@@ -5,8 +5,6 @@ use Rattle.std.specs.Int.{w32, from_be_bytes}
 use Rattle.std.specs.Str.{bytes_eq}
 use Rattle.std.specs.List.{AllByRecursion, flat_map}
 use Rattle.std.proofs.lemmas.List.Concat.{flat_map-cons}
-use Rattle.std.specs.Ordering.{is_gt}
-use Rattle.std.specs.declared.cmp.Ordering.{Ordering}
 use Rattle.std.specs.declared.cmp.Ordering.TheVariants.{Less, Greater, Equal}
 use Rattle.std.proofs.lemmas.List.{append-nil, get_or-map, length-map}
 use Rattle.std.proofs.lemmas.Option.{slice_get-get_or}
@@ -28,6 +26,7 @@ use Rattle.tree_values.specs.declared.node.Node.{Node}
 use Rattle.tree_values.specs.declared.node.Node.TheVariants.{Folder, File}
 use Rattle.tree_values.specs.declared.node.Row.{Row}
 use Rattle.tree_values.specs.Tree.{Volume, IsRow, IsTree, AreInOrder, row_at, node_size}
+use Rattle.tree_values.proofs.Ordered.{is_greater}
 use Rattle.tree_values.proofs.Places.{stands_at, belongs_at}
 use Rattle.tree_proof.specs.declared.slim.SlimRow.{SlimRow}
 use Rattle.tree_proof.specs.declared.certificate.Presence.{Presence}
@@ -47,7 +46,8 @@ use Rattle.tree_proof.specs.Certificate.{Certificate, first_place, certificate_s
 use Rattle.tree_proof.specs.Checking.{stands_so, is_in_place, other_path, computed, roots_of, wrong_root, finding_of, checked_finding, checked_read}
 use Rattle.tree_proof.specs.Laws.{FindingsAreTrue}
 use Rattle.tree_proof.specs.Inside.{HasWay}
-use Rattle.tree_proof.proofs.Lists.{in_front, in_back, same_fronts, all_got, each_implies, all_mapped, got_alike}
+use Rattle.vol_tree.proofs.Behind.{IsIn-left, IsIn-right}
+use Rattle.tree_proof.proofs.Lists.{same_fronts, all_got, each_implies, all_mapped, got_alike}
 use Rattle.tree_proof.proofs.Climbing.{IsDigest, climbs_alone}
 use Rattle.tree_proof.proofs.Spelled.{NodeFits, SlimFits, slim_codec, certificate_codec, LeafFits, CertificateFits, begin_of}
 
@@ -153,13 +153,13 @@ shown_is rows places leaf d tree fits few within apart e =
     let alone = climbs_alone most_levels (leaves rows) places.next (leaf_of leaf.row) leaf.beside (omega (arith, within, count)) (omega (arith, size, tree.few)) (length-sha256 (leaf_text leaf.row)) (leaves_are_digests rows)
     (λ x y here there same. apart x y (inr (inr (subst (λ (n : ℕ). IsIn x (way_texts most_levels n leaf.place (leaf_of leaf.row) leaf.beside)) (sym count)
     (subst (λ (place : ℕ). IsIn x (way_texts most_levels (length (leaves rows)) place (leaf_of leaf.row) leaf.beside)) (sym fits.place) here))))
-    (inr (in_front y (top_texts most_levels (leaves rows)) (map (λ r. leaf_text (slim_row r)) rows) there)) same)
+    (inr (IsIn-left y (top_texts most_levels (leaves rows)) (map (λ r. leaf_text (slim_row r)) rows) there)) same)
     climbed in
     let row = get_or rows places.next d in
     let at : places.next < length rows = omega (arith, within, parts.0) in
     let same : leaf_of leaf.row ≡ leaf_of (slim_row row) = alone ∙ get_or-map (λ r. leaf_of (slim_row r)) rows places.next d [] at in
     let leafs : leaf_text leaf.row ≡ leaf_text (slim_row row) =
-    apart (leaf_text leaf.row) (leaf_text (slim_row row)) (inr (inl refl)) (inr (in_back (leaf_text (slim_row row)) (top_texts most_levels (leaves rows)) (map (λ r. leaf_text (slim_row r)) rows) (row_text rows places.next d at))) same in
+    apart (leaf_text leaf.row) (leaf_text (slim_row row)) (inr (inl refl)) (inr (IsIn-right (leaf_text (slim_row row)) (top_texts most_levels (leaves rows)) (map (λ r. leaf_text (slim_row r)) rows) (row_text rows places.next d at))) same in
     let spelled : slim_spelling leaf.row ≡ slim_spelling (slim_row row) = cc in
     let value = one_value slim_codec leaf.row (slim_row row) [] [] fits.row (slim_fits row (all_got IsRow rows places.next d tree.each at)) (ap (λ (text : List ℕ). text ++ []) spelled) in
     (parts.0, value.0)
@@ -182,8 +182,8 @@ each_got count next (l ∷ ls) (suc j) e fits lt within =
 
 in_flat : {A : Type 0} (f : A → List (List ℕ)) (xs : List A) (j : ℕ) (e : A) (text : List ℕ) → j < length xs → IsIn text (f (get_or xs j e)) → IsIn text (flat_map f xs)
 in_flat f [] j e text lt here = absurd (omega arith)
-in_flat f (x ∷ xs) zero e text lt here = rw (flat_map-cons f x xs) (in_front text (f x) (flat_map f xs) here)
-in_flat f (x ∷ xs) (suc j) e text lt here = rw (flat_map-cons f x xs) (in_back text (f x) (flat_map f xs) (in_flat f xs j e text (omega arith) here))
+in_flat f (x ∷ xs) zero e text lt here = rw (flat_map-cons f x xs) (IsIn-left text (f x) (flat_map f xs) here)
+in_flat f (x ∷ xs) (suc j) e text lt here = rw (flat_map-cons f x xs) (IsIn-right text (f x) (flat_map f xs) (in_flat f xs j e text (omega arith) here))
 
 texts_of_each : (count : ℕ) (ls : List Leaf) (j : ℕ) (e : Leaf) (text : List ℕ) → j < length ls → IsIn text (shown_texts count (get_or ls j e)) → IsIn text (certificate_texts count ls)
 texts_of_each count [] j e text lt here = absurd (omega arith)
@@ -259,12 +259,6 @@ absent_is rows asked index tree within low high =
               (subst (λ (r : Row). path_cmp r.path asked ≡ Less) (sym (got_alike rows (index - 1) e no_row (omega arith))) (low (omega arith)))
         ]
 
--- a path that stands above another
-greater_of : (o : Ordering) → is_gt o ≡ true → o ≡ Greater
-greater_of Less e = absurd cc
-greater_of Equal e = absurd cc
-greater_of Greater e = refl
-
 -- by its place a row that is shown for a path without one is below it, or above
 side_low : (head : CertificateHead) (asked : FilePath) (leaf : Leaf) (place : ℕ) → head.kind ≡ Absent → leaf.place ≡ place → place < head.index → is_in_place head asked leaf ≡ true → path_cmp leaf.row.path asked ≡ Less
 side_low head asked leaf place kind at lt stands =
@@ -276,7 +270,7 @@ side_high : (head : CertificateHead) (asked : FilePath) (leaf : Leaf) (place : �
 side_high head asked leaf place kind at le stands =
     let here : stands_so Absent head.index asked leaf ≡ true = subst (λ (k : Presence). stands_so k head.index asked leaf ≡ true) kind stands in
     let more : nat_lt leaf.place head.index ≡ false = lt_fails leaf.place head.index (omega (arith, at)) in
-    greater_of (path_cmp leaf.row.path asked) (rw more at here)
+    is_greater (path_cmp leaf.row.path asked) (rw more at here)
 
 abbrev no_leaf : Leaf
 no_leaf = record { place = 0; row = slim_row no_row; beside = [] }

@@ -9,7 +9,8 @@ use Rattle.tree_values.specs.Lists.{IsIn}
 use Rattle.rs_parity.specs.Sketches.{Distinct}
 use Rattle.tree_proof.specs.Tops.{Digest, pair_text, pair_of, top_within, way_within, beside_within, front_of, topmost, climbed_within}
 use Rattle.tree_proof.specs.Texts.{top_texts, way_texts}
-use Rattle.tree_proof.proofs.Lists.{in_front, in_back, same_fronts, all_taken, all_dropped, all_got, all_both, last_behind, front_before}
+use Rattle.vol_tree.proofs.Behind.{IsIn-left, IsIn-right}
+use Rattle.tree_proof.proofs.Lists.{same_fronts, all_taken, all_dropped, all_got, all_both, last_behind, front_before}
 use Rattle.tree_proof.proofs.Levels.{top_low, top_high, texts_low, texts_high, way_low, way_left, way_right, beside_low, beside_left, beside_right, climbed_low, climbed_left, climbed_right, way_texts_low, way_texts_left, way_texts_right}
 
 -- a digest has 32 bytes
@@ -170,7 +171,7 @@ climbs_alone (suc levels) digests place leaf beside lt few is all apart e =
             let inner = climbs_alone levels (take (2 ^ levels) digests) place leaf front (omega (arith, low)) (omega (arith, low)) is (all_taken IsDigest (2 ^ levels) digests all)
             (λ x y among also.
             apart x y (rw here (inr (subst (λ (n : ℕ). IsIn x (way_texts levels n place leaf front)) low among)))
-            (rw there (inr (in_front y (top_texts levels (take (2 ^ levels) digests)) (top_texts levels (drop (2 ^ levels) digests)) also))))
+            (rw there (inr (IsIn-left y (top_texts levels (take (2 ^ levels) digests)) (top_texts levels (drop (2 ^ levels) digests)) also))))
             (ap (λ (n : ℕ). climbed_within levels n place leaf front) low ∙ parts.0) in
             inner ∙ get_or-take (2 ^ levels) digests place [] left
         | inr right ↦
@@ -190,7 +191,7 @@ climbs_alone (suc levels) digests place leaf beside lt few is all apart e =
             let inner = climbs_alone levels (drop (2 ^ levels) digests) (place - 2 ^ levels) leaf front (omega (arith, high)) (omega (arith, high, doubled levels)) is (all_dropped IsDigest (2 ^ levels) digests all)
             (λ x y among also.
             apart x y (rw here (inr (subst (λ (n : ℕ). IsIn x (way_texts levels n (place - 2 ^ levels) leaf front)) high among)))
-            (rw there (inr (in_back y (top_texts levels (take (2 ^ levels) digests)) (top_texts levels (drop (2 ^ levels) digests)) also))))
+            (rw there (inr (IsIn-right y (top_texts levels (take (2 ^ levels) digests)) (top_texts levels (drop (2 ^ levels) digests)) also))))
             (ap (λ (n : ℕ). climbed_within levels n (place - 2 ^ levels) leaf front) high ∙ parts) in
             let at : 2 ^ levels + (place - 2 ^ levels) ≡ place = omega arith in
             inner ∙ get_or-drop (2 ^ levels) digests (place - 2 ^ levels) [] ∙ ap (λ (n : ℕ). get_or digests n []) at

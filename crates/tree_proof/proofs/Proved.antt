@@ -74,9 +74,6 @@ pub record IsHead (rows : Volume) (asked : FilePath) (head : CertificateHead) : 
   pub none : head.kind ≡ Absent → row_at rows asked ≡ None
   pub above : head.kind ≡ Absent → (k : ℕ) (d : Row) → head.index ≤ k → k < length rows → path_cmp (get_or rows k d).path asked ≡ Greater
 
-head_with : Volume → FilePath → Option Row → CertificateHead
-head_with rows asked found = record { count = length rows; kind = presence_of found; index = length (rows_below rows asked) }
-
 -- what is looked up has the path
 found_path : (rows : Volume) (asked : FilePath) (r : Row) → row_at rows asked ≡ Some r → r.path ≡ asked
 found_path [] asked r e = absurd cc
