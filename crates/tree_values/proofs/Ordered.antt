@@ -157,9 +157,6 @@ pub row_at-other : (rows : List Row) (new : Row) (q : List (List ℕ)) → (q �
 row_at-other rows new q other =
     find-append (is_at q) (rows_below rows new.path) (new ∷ rows_above rows new.path) ∙ by (path_cmp q new.path) refl
   where
-    p : List (List ℕ)
-    p = new.path
-
     at_q : (row : Row) (o : Ordering) → path_cmp q new.path ≡ o → is_at q row ≡ true → path_cmp row.path new.path ≡ o
     at_q row o e h = ap (λ a. path_cmp a new.path) (is_at_equal row q h) ∙ e
 

@@ -1,8 +1,6 @@
 -- Where the rows of a path stand in rows that are in order.
-use Rattle.std.proofs.Common.{◌≡◌, ℕ, zero, suc, ◌+◌, ◌<◌, ◌≤◌, false, List, [], ◌∷◌, length, get_or, set, Option, Some, None, Result, Ok, Err, IfOk, IfErr, inl, inr, subst, arith, refl, ap, ◌∙◌}
-use Rattle.std.specs.List.{AllByRecursion, remove}
-use Rattle.std.proofs.lemmas.List.{set_split}
-use Rattle.std.proofs.lemmas.Option.{slice_get_read}
+use Rattle.std.proofs.Common.{◌≡◌, ℕ, zero, suc, ◌+◌, ◌<◌, ◌≤◌, false, List, [], ◌∷◌, length, get_or, None, Result, Ok, Err, IfOk, IfErr, inl, inr, subst, arith, refl, ap, ◌∙◌}
+use Rattle.std.specs.List.{AllByRecursion}
 use Rattle.std.specs.declared.cmp.Ordering.{Ordering}
 use Rattle.std.specs.declared.cmp.Ordering.TheVariants.{Less, Equal, Greater}
 use Rattle.std.specs.Ordering.{ordering_index, is_lt}
@@ -10,9 +8,8 @@ use Rattle.std.specs.List.Sorted.{IsSearchInRange, IsBinarySearchResult, IsNonDe
 use Rattle.std.proofs.lemmas.Bool.{cases_lt}
 use Rattle.tree_values.specs.Inside.{StandsAt, BelongsAt}
 use Rattle.file_paths.specs.Path.{path_cmp}
-use Rattle.tree_values.specs.declared.node.Node.{Node}
 use Rattle.tree_values.specs.declared.node.Row.{Row}
-use Rattle.tree_values.specs.Tree.{AreInOrder, row_at, rows_below, rows_above, with_row, without_row, kept_row, version_at, touched}
+use Rattle.tree_values.specs.Tree.{AreInOrder, row_at, rows_below, rows_above}
 use Rattle.file_paths.proofs.Order.{same_path, after_path}
 
 -- rows that are all above a path
@@ -109,28 +106,3 @@ located rows path order (Err at) within parted =
       ok = tt;
       err = belongs_at rows at path order (λ k d before. parts.0 k d (omega arith) before) within (λ less d. parts.1 at d (omega arith) less);
     }
-
--- ---- writes at a place
-
-pub set_at_place : (rows : List Row) (i : ℕ) (new : Row) → StandsAt rows new.path i → set rows i new ≡ with_row rows new
-set_at_place rows i new place = rw (place.below, place.above) (set_split rows i new place.within)
-
-pub remove_at_place : (rows : List Row) (path : List (List ℕ)) (i : ℕ) → StandsAt rows path i → remove rows i ≡ without_row rows path
-remove_at_place rows path i place = rw (place.below, place.above) refl
-
--- the row at the place is what is kept of the path
-pub kept_at_place : (rows : List Row) (path : List (List ℕ)) (i : ℕ) (row : Row) → StandsAt rows path i → row ≡ get_or rows i row → row ≡ kept_row rows path
-kept_at_place rows path i row place read =
-    let is : row_at rows path ≡ Some row = place.row ∙ slice_get_read rows (length rows) i row refl place.within read in
-    let at : row.path ≡ path = ap (λ r. r.path) read ∙ place.at row in
-    rw is (ap (λ p. record row { path = p }) at)
-
--- the version of a row at its place
-pub version_at_place : (rows : List Row) (path : List (List ℕ)) (i : ℕ) (row : Row) → StandsAt rows path i → row ≡ get_or rows i row → row.version ≡ version_at rows path
-version_at_place rows path i row place read = ap (λ r. r.version) (kept_at_place rows path i row place read)
-
--- the row at the place, once its path is touched
-pub touched_at_place : (rows : List Row) (path p : List (List ℕ)) (i : ℕ) (row new : Row) (node : Option Node) → StandsAt rows path i → row ≡ get_or rows i row → p ≡ path → new ≡ record { path = p; version = row.version + 1; node = node } → set rows i new ≡ touched rows path node
-touched_at_place rows path p i row new node place read same is =
-    let version = version_at_place rows path i row place read in
-    rw (is, same, version) (set_at_place rows i (record { path = path; version = version_at rows path + 1; node = node }) place)

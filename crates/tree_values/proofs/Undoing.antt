@@ -63,9 +63,6 @@ with_own_row rows p row same split =
 pub undo_touched : (rows : List Row) (p : List (List ℕ)) (node : Option Node) → AreInOrder rows → AllByRecursion (λ row. 1 ≤ row.version) rows → restored (touched rows p node) (kept_row rows p) ≡ rows
 undo_touched rows p node order each = by (row_at rows p) refl (split_at_path rows p order)
   where
-    new : Row
-    new = record { path = p; version = version_at rows p + 1; node = node }
-
     by : (o : Option Row) → row_at rows p ≡ o → rows ≡ rows_below rows p ++ option_to_list (row_at rows p) ++ rows_above rows p → restored (touched rows p node) (kept_row rows p) ≡ rows
     by None e split =
         let kept : kept_row rows p ≡ record { path = p; version = 0; node = None } = rw e refl in
