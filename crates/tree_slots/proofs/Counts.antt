@@ -134,16 +134,6 @@ module _ (rows : Volume) (count size : ℕ) (counted : IsCounted rows count size
   pub counted_taken : (kept : Row) → kept.path ≡ path → kept.version ≡ 0 → is_some (row_at rows path) ≡ true → IsCounted (restored rows kept) (count - 1) (size - node_size (node_at rows path))
   counted_taken kept same none there = rw (none, same) (counted_without rows count size counted path there)
 
-  pub some_row : is_some (row_at rows path) ≡ true → 0 < count
-  some_row there =
-      let long = length-without_row rows path counted.in_order in
-      let one = by (row_at rows path) there in
-      omega (arith, long, one, counted.rows_counted)
-    where
-      by : (o : Option Row) → is_some o ≡ true → length (option_to_list o) ≡ 1
-      by None e = absurd (true≢false (sym e))
-      by (Some row) e = refl
-
 -- ---- limits
 
 pub node_at_most : (rows : Volume) (p : FilePath) → AreInOrder rows → node_size (node_at rows p) ≤ total_size rows

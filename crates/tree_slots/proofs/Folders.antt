@@ -6,7 +6,7 @@ use Rattle.tree_values.proofs.Children.{get_behind, get_past}
 use Rattle.std.specs.List.{AllByRecursion, slice_get}
 use Rattle.std.specs.Option.{option_to_list, option_and_then}
 use Rattle.std.proofs.lemmas.Bool.{eqb-true}
-use Rattle.std.proofs.lemmas.List.{append_assoc, append-nil, length-append, length-take, take_at, get_or_at, take_more, take_all, take-append-drop, map-append}
+use Rattle.std.proofs.lemmas.List.{append_assoc, append-nil, length-append, length-take, take_at, get_or_at, take_all, take-append-drop, map-append}
 use Rattle.std.proofs.lemmas.List.Elements.{filter-append}
 use Rattle.std.specs.declared.cmp.Ordering.{Ordering}
 use Rattle.std.specs.declared.cmp.Ordering.TheVariants.{Less, Equal, Greater}
@@ -95,9 +95,6 @@ outside_above p n q row is same =
 
 module _ (slots : Places) (linked : AreLinked slots) (bare : (i : ℕ) → (place slots i).version ≡ 0 → (place slots i).node ≡ None) where
   -- ---- the rows of what stands in a folder
-
-  row_in : FilePath → ℕ → Row
-  row_in p c = record { path = p ++ (place slots c).name ∷ []; version = (place slots c).version; node = (place slots c).node }
 
   abbrev folder_rows : FilePath → List ℕ → Volume
   folder_rows p cs = map (λ c. record { path = p ++ (place slots c).name ∷ []; version = (place slots c).version; node = (place slots c).node }) (filter (λ c. is_some (place slots c).node) cs)
@@ -233,22 +230,6 @@ module _ (slots : Places) (path : FilePath) (arena : IsArena slots) where
       ∙ names_of_rows slots arena.linked arena.bare path (filter (λ c. is_some (place slots c).node) (place slots i).children)
 
 -- ---- the first, or one by its number
-
-pub standing_more : (slots : Places) (cs : List ℕ) (k c : ℕ) (slot : Place) → k < length cs → c ≡ get_or cs k 0 → slot ≡ place slots c → is_some slot.node ≡ true → standing slots (take (k + 1) cs) ≡ standing slots (take k cs) ++ slot.name ∷ []
-standing_more slots cs k c slot within read is some =
-    let front : take (k + 1) cs ≡ take k cs ++ c ∷ [] = take_more cs k 0 within ∙ ap (λ d. take k cs ++ d ∷ []) (sym read) in
-    let test : is_some (place slots c).node ≡ true = ap (λ (x : Place). is_some x.node) (sym is) ∙ some in
-    ap (standing slots) front
-    ∙ ap (map (λ c. (place slots c).name)) (filter-append (λ c. is_some (place slots c).node) (take k cs) (c ∷ []) ∙ rw test refl)
-    ∙ map-append (λ c. (place slots c).name) (filter (λ c. is_some (place slots c).node) (take k cs)) (c ∷ [])
-    ∙ ap (λ (x : Place). standing slots (take k cs) ++ x.name ∷ []) (sym is)
-
-pub standing_same : (slots : Places) (cs : List ℕ) (k c : ℕ) (slot : Place) → k < length cs → c ≡ get_or cs k 0 → slot ≡ place slots c → is_some slot.node ≡ false → standing slots (take (k + 1) cs) ≡ standing slots (take k cs)
-standing_same slots cs k c slot within read is none =
-    let front : take (k + 1) cs ≡ take k cs ++ c ∷ [] = take_more cs k 0 within ∙ ap (λ d. take k cs ++ d ∷ []) (sym read) in
-    let test : is_some (place slots c).node ≡ false = ap (λ (x : Place). is_some x.node) (sym is) ∙ none in
-    ap (standing slots) front
-    ∙ ap (map (λ c. (place slots c).name)) (filter-append (λ c. is_some (place slots c).node) (take k cs) (c ∷ []) ∙ rw test (append-nil (filter (λ c. is_some (place slots c).node) (take k cs))))
 
 standing_append : (slots : Places) (xs ys : List ℕ) → standing slots (xs ++ ys) ≡ standing slots xs ++ standing slots ys
 standing_append slots xs ys =

@@ -30,9 +30,6 @@ module _ (old new : Places) (parent k : ℕ) (name : List ℕ) (j : ℕ) (arena 
   none : child_named old (place old parent).children name ≡ None
   none = missing.none
 
-  parent_is_old : parent ≡ j → ⊥
-  parent_is_old = reached old new parent k name j arena grows path at none path parent at
-
   new_name : (place new j).name ≡ name
   new_name = ap (λ (x : Place). x.name) grows.fresh
 
@@ -228,10 +225,6 @@ no_slots = record {
   bare = λ i z. refl;
 }
   where
-    nothing : (p : FilePath) → (slot_of [] 0 p ≡ None) ⊎ (p ≡ [])
-    nothing [] = inr refl
-    nothing (n ∷ p) = inl refl
-
     apart : (p q : FilePath) (i : ℕ) → slot_of [] 0 p ≡ Some i → slot_of [] 0 q ≡ Some i → p ≡ q
     apart [] [] i e f = refl
     apart [] (m ∷ q) i e f = absurd (cc)

@@ -264,10 +264,6 @@ module _ (slots : Places) (rest : List ℕ) (j capacity parent k : ℕ) (x s : P
       longer = omega (arith, long, pads.longer);
     }
 
--- there is room to give one back
-pub room_again : (slots : Places) (rest : List ℕ) (j capacity : ℕ) → IsPool slots (rest ++ j ∷ []) capacity → length rest < capacity
-room_again slots rest j capacity pool = omega (arith, pool.all, pool.room, length-append rest (j ∷ []))
-
 -- ---- a slot is taken out of another
 
 -- slots with names one below the other are two

@@ -7,12 +7,10 @@ use Rattle.std.proofs.lemmas.Grind.{flat_map-append}
 use Rattle.byte_fields.specs.Field.{IsFront}
 use Rattle.byte_fields.proofs.Fronts.{front_all, front_first, front_second, front_same}
 use Rattle.file_paths.specs.Path.{FilePath}
-use Rattle.file_paths.specs.Limits.{max_file}
 use Rattle.tree_values.specs.declared.node.Row.{Row}
-use Rattle.tree_values.specs.Tree.{Volume, IsRow, node_size}
+use Rattle.tree_values.specs.Tree.{Volume}
 use Rattle.tree_values.specs.Spelling.{row as spelled_row}
 use Rattle.tree_slots.specs.Arena.{Places, place, own_row, rows_from}
-use Rattle.tree_values.proofs.Ordered.{all_map}
 
 -- ---- what holds of all rows holds of those of a slot, and of those of each slot in it
 
@@ -45,10 +43,6 @@ module _ (P : Row → Type 0) where
       rw one
       (piece_holds (λ c. rows_from levels slots (p ++ (place slots c).name ∷ []) c) (place slots i).children k within
       (back_holds (option_to_list (own_row p (place slots i))) (flat_map (λ c. rows_from levels slots (p ++ (place slots c).name ∷ []) c) (place slots i).children) all))
-
--- no file of a tree is too large to be spelled
-pub all_small : (rows : Volume) → AllByRecursion IsRow rows → AllByRecursion (λ row. node_size row.node ≤ max_file) rows
-all_small rows each = all_map (λ row sound. sound.small) rows each
 
 -- ---- the bytes
 

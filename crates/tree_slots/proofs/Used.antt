@@ -12,7 +12,7 @@ use Rattle.tree_slots.proofs.Slots.{read_place}
 use Rattle.tree_slots.proofs.Links.{SameShape, shape_slot, slot_of-append, one_further}
 use Rattle.tree_slots.proofs.Grown.{with_one, no_slots}
 use Rattle.tree_slots.proofs.Shrunk.{without_one, split_at, child_within, shrinks_at, shrunk_keeps}
-use Rattle.tree_slots.proofs.Pool.{all_to, all_with, but_last, not_none, no_pool, same_pool, written_pool, dropped_pool}
+use Rattle.tree_slots.proofs.Pool.{all_to, all_with, but_last, not_none, no_pool, written_pool, dropped_pool}
 use Rattle.tree_slots.proofs.Written.{written_here, written_elsewhere, written_shape, written_slot}
 
 -- what holds of a slot in another
@@ -214,7 +214,3 @@ restored_kept slots new free capacity i version node path at within some none po
   where
     each : (node : Option Node) → IsPool (written slots i version node) free capacity × AreUsed (written slots i version node) (slot_of (written slots i version node) 0 path)
     each node = (written_pool slots free capacity i version node within pool, used_at (written slots i version node) path i (written_slot slots i version node within path ∙ at) (used_emptied slots i version node within used))
-
-pub copied_kept : (slots : Places) (free : List ℕ) (capacity more : ℕ) → length slots ≤ more → KeepsArena slots free capacity → KeepsArena slots free more
-copied_kept slots free capacity more room kept =
-    record { arena = kept.arena; pool = same_pool slots slots free capacity more (λ i. refl) (omega arith) kept.pool.all (omega arith) kept.pool; used = kept.used }
