@@ -8,6 +8,7 @@ use Rattle.tree_values.specs.Tree.{Volume}
 use Rattle.tree_values.specs.Effects.{changed_all}
 use Rattle.tree_values.specs.declared.node.Effect.{Effect}
 use Rattle.tree_values.specs.declared.node.Effect.TheVariants.{Make, Put, Remove, Move, Mode}
+use Rattle.vol_tree.proofs.Behind.{IsIn-left, IsIn-right}
 use Rattle.file_paths.specs.Path.{FilePath}
 use Rattle.mod_log.specs.declared.log.Entry.{Entry}
 use Rattle.mod_log.specs.Log.{Log, IsLog, AreEntriesOf}
@@ -25,15 +26,6 @@ in_parts x (y ∷ xs) ys (inr later) =
       | inl front ↦ inl (inr front)
       | inr back ↦ inr back
     ]
-
-pub in_front : {X : Type 0} (x : X) (xs ys : List X) → IsIn x xs → IsIn x (xs ++ ys)
-in_front x [] ys is = absurd is
-in_front x (y ∷ xs) ys (inl same) = inl same
-in_front x (y ∷ xs) ys (inr later) = inr (in_front x xs ys later)
-
-pub in_back : {X : Type 0} (x : X) (xs ys : List X) → IsIn x ys → IsIn x (xs ++ ys)
-in_back x [] ys is = is
-in_back x (y ∷ xs) ys is = inr (in_back x xs ys is)
 
 in_option : {X : Type 0} (x : X) (o : Option X) → IsIn x (option_to_list o) → o ≡ Some x
 in_option x None is = absurd is
@@ -100,7 +92,7 @@ put_within seq k zero i (effect ∷ effects) path content at found =
     let put : effect ≡ Put path content = some_is effect (Put path content) found in
     rw (same, put) (inl refl)
 put_within seq k (suc j) i (effect ∷ effects) path content at found =
-    in_back (aside seq i path content) (option_to_list (put_of seq k effect)) (puts_from seq (k + 1) effects) (put_within seq (k + 1) j i effects path content (omega (arith, at)) found)
+    IsIn-right (aside seq i path content) (option_to_list (put_of seq k effect)) (puts_from seq (k + 1) effects) (put_within seq (k + 1) j i effects path content (omega (arith, at)) found)
 
 -- ---- what entries put
 
@@ -117,8 +109,8 @@ in_entries (entry ∷ entries) put is =
 
 of_entry : (entries : List Entry) (entry : Entry) (put : PutAside) → IsIn entry entries → IsIn put (puts_of entry) → IsIn put (puts_in entries)
 of_entry [] entry put among is = absurd among
-of_entry (first ∷ entries) entry put (inl same) is = in_front put (puts_of first) (puts_in entries) (subst (λ (e : Entry). IsIn put (puts_of e)) same is)
-of_entry (first ∷ entries) entry put (inr later) is = in_back put (puts_of first) (puts_in entries) (of_entry entries entry put later is)
+of_entry (first ∷ entries) entry put (inl same) is = IsIn-left put (puts_of first) (puts_in entries) (subst (λ (e : Entry). IsIn put (puts_of e)) same is)
+of_entry (first ∷ entries) entry put (inr later) is = IsIn-right put (puts_of first) (puts_in entries) (of_entry entries entry put later is)
 
 pub was_put : (log : Log) (put : PutAside) → IsIn put (puts_in log.pending) → WasPut log put
 was_put log put is =
@@ -175,19 +167,19 @@ module _ (folder : FilePath) where
   one_entry : (seq k : ℕ) (effects : List Effect) → ((put : PutAside) → IsIn put (puts_from seq k effects) → IsSmall put) → NoneTwice (map (file_of folder) (puts_from seq k effects))
   one_entry seq k [] small = tt
   one_entry seq k (effect ∷ effects) small =
-      by (put_of seq k effect) refl (one_entry seq (k + 1) effects (λ put is. small put (in_back put (option_to_list (put_of seq k effect)) (puts_from seq (k + 1) effects) is)))
+      by (put_of seq k effect) refl (one_entry seq (k + 1) effects (λ put is. small put (IsIn-right put (option_to_list (put_of seq k effect)) (puts_from seq (k + 1) effects) is)))
     where
       by : (o : Option PutAside) → put_of seq k effect ≡ o → NoneTwice (map (file_of folder) (puts_from seq (k + 1) effects)) → NoneTwice (map (file_of folder) (option_to_list o ++ puts_from seq (k + 1) effects))
       by None e later = later
       by (Some put) e later = (apart, later)
         where
           here : IsIn put (puts_from seq k (effect ∷ effects))
-          here = in_front put (option_to_list (put_of seq k effect)) (puts_from seq (k + 1) effects) (subst (λ (o : Option PutAside). IsIn put (option_to_list o)) (sym e) (inl refl))
+          here = IsIn-left put (option_to_list (put_of seq k effect)) (puts_from seq (k + 1) effects) (subst (λ (o : Option PutAside). IsIn put (option_to_list o)) (sym e) (inl refl))
 
           apart : IsIn (file_of folder put) (map (file_of folder) (puts_from seq (k + 1) effects)) → ⊥
           apart is =
               let found = in_map (file_of folder) (file_of folder put) (puts_from seq (k + 1) effects) is in
-              let there : IsIn found.0 (puts_from seq k (effect ∷ effects)) = in_back found.0 (option_to_list (put_of seq k effect)) (puts_from seq (k + 1) effects) found.1 in
+              let there : IsIn found.0 (puts_from seq k (effect ∷ effects)) = IsIn-right found.0 (option_to_list (put_of seq k effect)) (puts_from seq (k + 1) effects) found.1 in
               let same = same_file folder put found.0 (small put here) (small found.0 there) found.2 in
               let index = put_is seq k effect put e in
               let known = put_found seq (k + 1) effects found.0 found.1 in
@@ -198,15 +190,15 @@ module _ (folder : FilePath) where
   each_entry_differs number volume (entry ∷ entries) are small =
       subst NoneTwice (sym (map-append (file_of folder) (puts_of entry) (puts_in entries)))
       (none_twice_append (map (file_of folder) (puts_of entry)) (map (file_of folder) (puts_in entries))
-      (one_entry entry.seq 0 entry.effects (λ put is. small put (in_front put (puts_of entry) (puts_in entries) is)))
-      (each_entry_differs (number + 1) (changed_all entry.effects volume) entries are.1 (λ put is. small put (in_back put (puts_of entry) (puts_in entries) is)))
+      (one_entry entry.seq 0 entry.effects (λ put is. small put (IsIn-left put (puts_of entry) (puts_in entries) is)))
+      (each_entry_differs (number + 1) (changed_all entry.effects volume) entries are.1 (λ put is. small put (IsIn-right put (puts_of entry) (puts_in entries) is)))
       apart)
     where
       apart : (path : FilePath) → IsIn path (map (file_of folder) (puts_of entry)) → IsIn path (map (file_of folder) (puts_in entries)) → ⊥
       apart path front back =
           let one = in_map (file_of folder) path (puts_of entry) front in
           let other = in_map (file_of folder) path (puts_in entries) back in
-          let same = same_file folder one.0 other.0 (small one.0 (in_front one.0 (puts_of entry) (puts_in entries) one.1)) (small other.0 (in_back other.0 (puts_of entry) (puts_in entries) other.1)) (sym one.2 ∙ other.2) in
+          let same = same_file folder one.0 other.0 (small one.0 (IsIn-left one.0 (puts_of entry) (puts_in entries) one.1)) (small other.0 (IsIn-right other.0 (puts_of entry) (puts_in entries) other.1)) (sym one.2 ∙ other.2) in
           let here = put_found entry.seq 0 entry.effects one.0 one.1 in
           let known = puts_bounds (number + 1) (changed_all entry.effects volume) entries other.0 are.1 other.1 in
           omega (arith, same.0, here.1, are.0.numbered, known.0)

@@ -43,9 +43,6 @@ all-append (x ∷ xs) ys = ap (before x) (all-append xs ys) ∙ one_before x (al
 
 -- ---- the effects of an entry
 
-none_more : (xs : List PutAside) → xs ++ [] ≡ xs
-none_more xs = append-nil xs
-
 -- what an effect within others puts
 pub puts-cut : (seq k j : ℕ) (xs : List Effect) (e : Effect) (ys : List Effect) → j ≡ k + length xs
     → puts_from seq k (xs ++ e ∷ ys) ≡ puts_from seq k xs ++ (option_to_list (put_of seq j e) ++ puts_from seq (j + 1) ys)
