@@ -10,11 +10,6 @@ left_is_no_run number =
     let name = left_name number in
     ap (λ x. x && (bytes_eq (take 4 name) front && is_print_and_number (drop 4 name))) (le_true 4 (length name) (omega arith))
 
-pub left_is_known : (number : ℕ) → is_left_name (left_name number) ≡ true
-left_is_known number =
-    let name = left_name number in
-    ap (λ x. x && bytes_eq (take 5 name) left_front) (le_true 5 (length name) (omega arith))
-
 pub run_is_not_left : (print : List ℕ) (number : ℕ) → is_left_name (folder_name print number) ≡ false
 run_is_not_left print number = by (nat_le 5 (length (folder_name print number)))
   where

@@ -6,7 +6,7 @@ use Rattle.std.specs.Option.{option_to_list}
 use Rattle.std.proofs.lemmas.List.{append-nil, map-append, length-append, length-drop, length-take, take-append-drop, take-append-le, drop-append-le, take_all}
 use Rattle.std.proofs.lemmas.Grind.{flat_map-append}
 use Rattle.std.proofs.Math.ListN.{drop_of_length-le}
-use Rattle.std.proofs.lemmas.Bool.{le-leb, lt-leb, leb-true}
+use Rattle.std.proofs.lemmas.Bool.{leb-true}
 use Rattle.outside.specs.Outside.{Told}
 use Rattle.outside.specs.Keeper.{Images, IsPut, Appends, followed_by}
 use Rattle.outside.specs.declared.errors.KeepError.{KeepError}
@@ -504,21 +504,3 @@ entry_put es before i old mid new was is =
     let next = drop (before - i) (option_to_list (slice_get es i)) in
     let all = sym (records_then (drop before (take i es)) next) ∙ ap records_of (sym (more_entries es before i)) in
     is ∙ ap (λ (front : List ℕ). front ++ records_of next) was ∙ append_assoc old (records_of (drop before (take i es))) (records_of next) ∙ ap (λ (rest : List ℕ). old ++ rest) all
-
-few_of : {X : Type 0} (found : Option X) → length (option_to_list found) ≤ 1
-few_of None = omega arith
-few_of (Some x) = omega arith
-
--- an entry among the first ones is not put
-pub none_put : (es : List Entry) (before i : ℕ) (old : List ℕ) → i < before → old ≡ old ++ records_of (drop (before - i) (option_to_list (slice_get es i)))
-none_put es before i old among =
-    let found = option_to_list (slice_get es i) in
-    let few = few_of (slice_get es i) in
-    let none : drop (before - i) found ≡ [] = drop_of_length-le found {i = before - i} (omega (arith, few, among)) in
-    sym (ap (λ (rest : List Entry). old ++ records_of rest) none ∙ append-nil old)
-
--- and one behind them is
-pub one_put : (es : List Entry) (before i : ℕ) (old new : List ℕ) → before ≤ i → new ≡ old ++ records_of (option_to_list (slice_get es i)) → new ≡ old ++ records_of (drop (before - i) (option_to_list (slice_get es i)))
-one_put es before i old new behind is =
-    let none : 0 ≡ before - i = omega (arith, behind) in
-    is ∙ ap (λ (n : ℕ). old ++ records_of (drop n (option_to_list (slice_get es i)))) none

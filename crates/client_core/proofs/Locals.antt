@@ -10,16 +10,13 @@ use Rattle.mod_log.specs.declared.log.LogError.{LogError}
 use Rattle.mod_log.specs.declared.log.LogError.TheVariants.{EntryTooLarge, LogFull, LastNumber, Tree, Memory}
 use Rattle.mod_log.specs.Log.{Log, IsLog, logged}
 use Rattle.mod_log.specs.Append.{next_entry, appended, append_refusals}
-use Rattle.world_rules.specs.World.{World}
 use Rattle.world_rules.specs.Telling.{LinkTelling}
-use Rattle.world_rules.specs.Run.{Runs, Logs}
-use Rattle.world_rules.proofs.Runs.{runs_once}
 use Rattle.client_core.specs.Trace.{Trace, nothing}
 use Rattle.client_core.specs.Logging.{local_entry, LocalTurn}
 use Rattle.client_core.specs.declared.keeping.Journal.{Journal}
 use Rattle.client_core.specs.Journal.{next_notes}
 use Rattle.client_core.specs.Keeping.{IsKept, IsReady, IsKeptReady}
-use Rattle.client_core.specs.Goes.{Goes, stand}
+use Rattle.client_core.specs.Goes.{Goes}
 use Rattle.client_core.proofs.Going.{goes_none, goes_logged}
 use Rattle.client_core.proofs.Journal.{IsOneAtMost, ready_current, logged_ready, logged_one}
 
@@ -65,15 +62,6 @@ module _ (name : List ℕ) (client : ℕ) (ships : Bool) (effects : List Effect)
   local_goes (Err Memory) ok seq err same is_log r t =
       subst (λ (next : Log). Goes client ships name (LocalEnds effects before (Err Memory) next) before next before i i r r t t) (sym same)
       (goes_none name client ships (LocalEnds effects before (Err Memory) before) before i r t keeps (inr (refl, refl, refl)))
-
--- and as moves in any world, whatever is kept of it: the entry is logged
-pub local_runs : (client : ℕ) (ships : Bool) (effects : List Effect) (before after kept : Log) (world : World) → appended None effects before ≡ Ok after → IsLog after
-    → Runs client ships (local_entry effects before ∷ []) [] (stand before kept world) (stand after kept world)
-local_runs client ships effects before after kept world is is_log =
-    let entry : Entry = local_entry effects before in
-    let same : logged entry before ≡ after = appended-is None effects before after is in
-    subst (λ (next : Log). Runs client ships (entry ∷ []) [] (stand before kept world) (stand next kept world)) same
-    (runs_once client ships (stand before kept world) (Logs entry) (subst IsLog (sym same) is_log))
 
 -- a client that might go on under a name still may
 pub local_ready : (effects : List Effect) (before after : Log) (result : Result ℕ LogError) → OnOk result (appended None effects before ≡ Ok after) → OnErr result (after ≡ before)

@@ -1,28 +1,18 @@
 -- What running a command makes of the client and the world.
-use Rattle.std.proofs.Common.{Bool, true, false, ◌≡◌, ◌≢◌, ◌⊎◌, inl, inr, ℕ, ◌+◌, length, List, [], ◌∷◌, ◌++◌, Option, Some, None, option_map, Ok, Err, refl, sym, ◌∙◌, ap, subst, arith}
+use Rattle.std.proofs.Common.{Bool, true, false, ◌≡◌, ◌≢◌, ◌⊎◌, inl, inr, ℕ, ◌+◌, List, [], ◌∷◌, ◌++◌, Option, Some, None, option_map, Ok, Err, refl, sym, ◌∙◌, ap, subst, arith}
 use Rattle.outside.specs.Outside.{Told, RisesWhere, CountsFault}
-use Rattle.sha2.specs.Sha256.{sha256}
 use Rattle.outside.specs.Keeper.{Images}
-use Rattle.tree_values.specs.declared.node.Effect.{Effect}
 use Rattle.cmd_capture.specs.declared.command.Command.{Command}
 use Rattle.cmd_capture.specs.declared.job.Job.{Job}
 use Rattle.cmd_capture.specs.declared.job.Outcome.{Outcome}
 use Rattle.cmd_capture.specs.declared.runner.Run.{Run}
 use Rattle.cmd_capture.specs.declared.runner.RunError.{RunError}
 use Rattle.cmd_capture.specs.declared.runner.RunError.TheVariants as run_errors
-use Rattle.cmd_capture.specs.Spelling.{job as spelled_job}
 use Rattle.cmd_capture.specs.Runs.{AddsRun, RunnerTelling, HasRun, telling}
 use Rattle.work_area.specs.declared.jobs.JobError.{JobError}
 use Rattle.work_area.specs.declared.jobs.JobError.TheVariants as job_errors
-use Rattle.work_area.specs.declared.rows.RowsFault.{RowsFault}
-use Rattle.work_area.specs.declared.rows.RowsFault.TheVariants as rows_faults
 use Rattle.work_area.specs.Jobs.{job_of}
-use Rattle.work_area.specs.Outcomes.{IsRowsFault}
-use Rattle.work_area.specs.Changes.{first_path}
-use Rattle.mod_log.specs.declared.origin.Origin.{Origin}
-use Rattle.mod_log.specs.Append.{appended}
 use Rattle.mod_log.specs.declared.log.Entry.{Entry}
-use Rattle.mod_log.specs.declared.log.LogError.{LogError}
 use Rattle.mod_log.specs.Log.{Log, IsLog, tree_of, logged}
 use Rattle.world_rules.specs.Telling.{LinkTelling}
 use Rattle.client_core.specs.declared.running.RunEnd.{RunEnd}
@@ -30,11 +20,11 @@ use Rattle.client_core.specs.declared.running.RunEnd.TheVariants as ends
 use Rattle.client_core.specs.Trace.{Trace, nothing, followed, logging, running}
 use Rattle.client_core.specs.declared.keeping.Journal.{Journal}
 use Rattle.client_core.specs.Keeping.{IsKept, IsReady, IsKeptReady}
-use Rattle.client_core.specs.Running.{changes_of, first_clash, origin_of, run_entry, run_logged, IsLoggable, RanEnd, ran_trace, RunTurn, BreaksRun, RunEnds, has_logged, RunsCommand}
+use Rattle.client_core.specs.Running.{changes_of, origin_of, run_entry, run_logged, RanEnd, ran_trace, RunTurn, BreaksRun, RunEnds, has_logged, RunsCommand}
 use Rattle.client_core.specs.Journal.{next_notes}
-use Rattle.client_core.specs.Inside.{ran, RanEnds, IsUnlogged, unrun_end, jobless_end, odd_end}
+use Rattle.client_core.specs.Inside.{ran, RanEnds, unrun_end, jobless_end}
 use Rattle.client_core.specs.Goes.{Goes}
-use Rattle.client_core.proofs.Going.{has_run_none, changed_so, goes_ran, goes_ran_logged}
+use Rattle.client_core.proofs.Going.{has_run_none, goes_ran, goes_ran_logged}
 use Rattle.client_core.proofs.Counting.{unrisen}
 use Rattle.client_core.proofs.Journal.{JournalIsCurrent, IsOneAtMost, ready_current, logged_ready, same_one, logged_one}
 use Rattle.client_core.proofs.Locals.{appended-is}
@@ -196,66 +186,6 @@ given_faults outcome f g command before run end after cause ends_so = unrisen (e
     other (inr broken) is = absurd (cc (is, broken.0))
     other (inl did) is = subst (λ (e : RunEnd). RanEnd command before run e after) is did
 
-pub unrun_faults : (error : RunError) (f g : ℕ) → CountsFault {T = Outcome} run_errors.Failed f g (Err error) → RisesWhere (unrun_end error ≡ ends.NotRun) f g
-unrun_faults run_errors.Failed f g cause = record { later = cause.later; once = λ is. cause.once refl; never = λ not. absurd (not refl) }
-unrun_faults run_errors.Memory f g cause = unrisen (ends.Memory ≡ ends.NotRun) f g (λ is. absurd (cc)) (cause.never (λ is. absurd (cc)))
-
-pub jobless_faults : (fault : JobError) (f : ℕ) → RisesWhere (jobless_end fault ≡ ends.NotRun) f f
-jobless_faults job_errors.Memory f = unrisen (ends.Memory ≡ ends.NotRun) f f (λ is. absurd (cc)) refl
-jobless_faults (job_errors.NoFolder path) f = unrisen (ends.NoJob (job_errors.NoFolder path) ≡ ends.NotRun) f f (λ is. absurd (cc)) refl
-jobless_faults (job_errors.NoInput i) f = unrisen (ends.NoJob (job_errors.NoInput i) ≡ ends.NotRun) f f (λ is. absurd (cc)) refl
-
--- ---- what is as before
-
-module _ (work : List ℕ) (command : Command) (before after : Log) where
-  turn_same : (end : RunEnd) (trace : Trace) → RunTurn work command before end after trace → has_logged end ≡ false → after ≡ before
-  turn_same (ends.Logged seq status) trace turn none = absurd (cc)
-  turn_same (ends.Nothing status) trace turn none = turn.2.3
-  turn_same (ends.NoJob fault) trace turn none = turn.1
-  turn_same ends.NotRun trace turn none = turn.1
-  turn_same (ends.OddTree i) trace turn none = turn.2.1
-  turn_same (ends.Clash path) trace turn none = turn.2.2
-  turn_same (ends.Refused refusal) trace turn none = turn.2.2
-  turn_same ends.Memory trace turn none = absurd turn.2
-
-  -- a log that got no entry
-  pub unlogged_same : (end : RunEnd) (trace : Trace) → RunEnds work command before end after trace → has_logged end ≡ false → after ≡ before
-  unlogged_same end trace (inl turn) none = turn_same end trace turn none
-  unlogged_same end trace (inr broken) none = broken.1
-
--- ---- what is made of a run
-
-module _ (log : Log) (run : Run) where
-  pub nothing_is : (status : ℕ) → run.outcome.status ≡ status → changes_of run ≡ [] → IsUnlogged log run (Some (ends.Nothing status))
-  nothing_is status same none = λ legal command. inl (legal, none, sym same, refl)
-
-  pub clash_is : (effect : Effect) (end : RunEnd) → first_clash log run ≡ Some effect → (end ≡ ends.Clash (first_path effect)) ⊎ (end ≡ ends.Memory) → IsUnlogged log run (Some end)
-  clash_is effect end found (inl is) = λ legal command. subst (λ (e : RunEnd). RanEnds command log run e log) (sym is) (inl (legal, (effect, found, refl), refl))
-  clash_is effect end found (inr is) = λ legal command. inr (is, refl)
-
-  module _ (command : Command) (print : List ℕ) (status : ℕ) (job : Job) (effects : List Effect) (job_is : run.job ≡ job) (status_is : run.outcome.status ≡ status) (print_is : print ≡ sha256 (spelled_job job))
-      (loggable : IsLoggable log run) (effects_are : effects ≡ changes_of run) where
-    abbrev made : Origin
-    made = record { command = command; job_print = print; status = status }
-
-    origin_is : made ≡ origin_of command run
-    origin_is =
-        let told : print ≡ sha256 (spelled_job run.job) = print_is ∙ ap (λ (j : Job). sha256 (spelled_job j)) (sym job_is) in
-        λ i. record { command = command; job_print = told i; status = sym status_is i }
-
-    appends : appended (Some made) effects log ≡ run_logged command run log
-    appends = ap (λ (o : Origin). appended (Some o) effects log) origin_is ∙ ap (λ (es : List Effect). appended (Some (origin_of command run)) es log) effects_are
-
-    pub logged_is : (seq : ℕ) (after : Log) → appended (Some made) effects log ≡ Ok after → seq ≡ log.acked + length log.pending + 1 → RanEnds command log run (ends.Logged seq status) after
-    logged_is seq after is number = inl (loggable, sym appends ∙ is, number, sym status_is)
-
-    pub refused_is : (refusal : LogError) (after : Log) → appended (Some made) effects log ≡ Err refusal → after ≡ log → RanEnds command log run (ends.Refused refusal) after
-    refused_is refusal after is same = inl (loggable, sym appends ∙ is, same)
-
-  pub odd_is : (fault : RowsFault) → IsRowsFault run.outcome.rows fault → (command : Command) → RanEnds command log run (odd_end fault) log
-  odd_is (rows_faults.OddTree i) is command = inl (is, refl)
-  odd_is rows_faults.Memory is command = inr (refl, refl)
-
 -- ---- over any link
 
 module _ (name : List ℕ) (client : ℕ) (ships : Bool) (work : List ℕ) (command : Command) (before : Log) (i : Option Images) (keeps : IsKept i name client before) (p q : RunnerTelling) (t : LinkTelling) where
@@ -305,8 +235,3 @@ module _ (name : List ℕ) (client : ℕ) (ships : Bool) (work : List ℕ) (comm
       by : RunEnds work command before end after did.trace → Goes client ships name T before after before i i p q t t
       by (inl turn) = turned end turn did.turn
       by (inr why) = broken why.2 why.1
-
--- an entry that was logged is a change
-pub run_changed : (work : List ℕ) (command : Command) (before after : Log) (seq status : ℕ) (trace : Trace) → RunEnds work command before (ends.Logged seq status) after trace → trace.changes ≢ []
-run_changed work command before after seq status trace (inl turn) = changed_so trace.changes after [] (ap (λ (n : Trace). n.changes) turn.3)
-run_changed work command before after seq status trace (inr broken) = absurd (cc broken.0)

@@ -191,10 +191,6 @@ light_by client route entry size stored valid there made operates stores = (ligh
         let shorter = found.2.shorter in
         lt-ltb size stored (omega (arith, stores, operates found.1 found.2.sketch, shorter, frame_small (store_alone client entry) valid))
 
--- a command made it
-pub light_made : (client : ℕ) (route : Route) (entry : Entry) → IsLightEntry client route entry → is_some entry.origin ≡ true
-light_made client route entry light = ap is_some light.2.sketch.made_by
-
 -- and each sketch of it, at the address that there is, tells that it is light
 pub light_so : (client : ℕ) (route : Route) (entry : Entry) (address : List ℕ) (sketched : SketchEntry) → route.surrogate ≡ Some address → IsSketchOf entry sketched → IsLightEntry client route entry
     → IsLight client route entry address sketched

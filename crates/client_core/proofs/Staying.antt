@@ -15,10 +15,9 @@ use Rattle.mod_log.specs.declared.log.Entry.{Entry}
 use Rattle.mod_log.specs.Log.{Log, after, tree_of, tree_at, pulled}
 use Rattle.mod_log.proofs.Entries.{after-append, acknowledged_keeps, pulled_replaces}
 use Rattle.wire_frames.specs.declared.message.Message.{Message}
-use Rattle.wire_frames.specs.declared.message.Message.TheVariants.{Store, Operate, Pull, Stale, Unfit, Full}
+use Rattle.wire_frames.specs.declared.message.Message.TheVariants.{Store, Pull}
 use Rattle.wire_frames.specs.declared.parts.Part.{Part}
-use Rattle.wire_frames.specs.Frame.{client_of}
-use Rattle.world_rules.specs.Served.{Served, StoreVerdict, Repeated, Early, Outdated, Refused, Taken, judged, passes, served_after, served_through, verdict_through, is_want_of_room, end_of, reply, answer, state_after, TakenEntry, entry_stored, taken_if, taken_through, taken_of}
+use Rattle.world_rules.specs.Served.{Served, Taken, judged, passes, served_after, served_through, verdict_through, end_of, reply, answer, state_after, TakenEntry, entry_stored, taken_if, taken_through, taken_of}
 use Rattle.world_rules.specs.World.{World, Step, Send, Deliver, Other, Relay, happens, IsForServer, IsLicensed, IsAllowed}
 use Rattle.world_rules.specs.InStep.{InStep, MaySend, IsRefusal, HasNoCollision}
 use Rattle.world_rules.specs.Run.{State, Move, Network, Notes, Logs, Acknowledges, Pulls, Saves, moved, IsPossible, AllPossible, moved_by, entry_in, entries_in, taken_by, own}
@@ -30,6 +29,7 @@ use Rattle.world_rules.proofs.Next.{TakesInOrder, tree_at-next, tree_at-acked, t
 use Rattle.world_rules.proofs.Relaying.{relay_refuses_none}
 use Rattle.world_rules.proofs.Replying.{refused_ahead}
 use Rattle.world_rules.proofs.Runs.{told_at_most, allowed_log, move_keeps}
+use Rattle.world_rules.proofs.Unrefused.{refusal_client, sent_refuses_none, refuses_next}
 use Rattle.client_core.specs.Honest.{IsOvertaken}
 use Rattle.client_core.specs.Overtaken.{HasPulledNothing, OvertakenClientsStaySo, RefusedClientsAreOvertaken}
 
@@ -121,32 +121,6 @@ module _ (client : ℕ) (log : Log) (path : FilePath) where
   step_ahead (Send message) world next low takes less = subst (λ (n : ℕ). IsAheadAt n world.served) (sym takes) less
   step_ahead (Other message) world next low takes less = subst (λ (n : ℕ). IsAheadAt n world.served) (sym takes) less
   step_ahead (Relay message) world next low takes less = subst (λ (n : ℕ). IsAheadAt n world.served) (sym takes) less
-
--- ---- what refuses
-
-refusal_client : (client number : ℕ) (message : Message) → IsRefusal client number message → client_of message ≡ client
-refusal_client client number (Stale of stored upto path theirs ours) is = is.0
-refusal_client client number (Unfit of stored upto index fault) is = is.0
-refusal_client client number (Full of stored upto index fault) is = is.0
-refusal_client client number _ is = absurd is
-
-sent_refuses_none : (client : ℕ) (ships : Bool) (log : Log) (number : ℕ) (message : Message) → MaySend client ships log message → IsRefusal client number message → ⊥
-sent_refuses_none client ships log number (Store of stored parts) may is = is
-sent_refuses_none client ships log number (Operate of sketched) may is = is
-sent_refuses_none client ships log number (Pull of known) may is = is
-sent_refuses_none client ships log number _ may is = may
-
--- a server refuses the entry behind those that it took
-refuses_next : (client number of stored end last : ℕ) (judgement : StoreVerdict) → IsRefusal client number (reply of stored end last judgement) → (of ≡ client) × (last + 1 ≡ number)
-refuses_next client number of stored end last Repeated is = absurd is
-refuses_next client number of stored end last Early is = absurd is
-refuses_next client number of stored end last (Outdated conflict) is = is
-refuses_next client number of stored end last (Taken volume) is = absurd is
-refuses_next client number of stored end last (Refused cause) is = by (is_want_of_room cause.1) is
-  where
-    by : (full : Bool) → IsRefusal client number (if full then Full of stored last cause.0 cause.1 else Unfit of stored last cause.0 cause.1) → (of ≡ client) × (last + 1 ≡ number)
-    by true is = is
-    by false is = is
 
 module _ (client : ℕ) (ships : Bool) where
   -- ---- no pull brings a version

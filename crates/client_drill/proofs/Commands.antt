@@ -197,13 +197,6 @@ few_both a b c d xs ys first second = record {
   rest = omega (arith, first.rest, second.rest, count_both may_put xs ys);
 }
 
--- a line by itself
-few_one : (line : Result Line LineError) (runs puts : Bool) → asks_to_run line ≡ runs → may_put line ≡ puts → Few (one runs) (one puts) (line ∷ [])
-few_one line runs puts ran rest = record {
-  ran = omega (arith, count_more asks_to_run line [], ap one ran);
-  rest = omega (arith, count_more may_put line [], ap one rest);
-}
-
 one_most : (b : Bool) → one b ≤ 1
 one_most true = omega arith
 one_most false = omega arith

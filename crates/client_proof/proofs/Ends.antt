@@ -191,19 +191,3 @@ module _ (root : Digest) (path : FilePath) (left rest written now : Option (List
     ends_told KeeperFailed sink tells = no_such 5 (λ is. absurd (cc is)) (λ is. absurd (cc is)) tells
     ends_told OtherImage sink tells = no_such 6 (λ is. absurd (cc is)) (λ is. absurd (cc is)) tells
     ends_told TooLong sink tells = no_such 8 (λ is. absurd (cc is)) (λ is. absurd (cc is)) tells
-
--- ---- the answer
-
--- an answer that was written whole is told by its status
-pub told_whole : (answer : Result Finding CheckError) (status : Status) (written now : Option (List ℕ)) → WritesAnswer answer (code status) written now
-    → TellsFinding answer status written now
-told_whole answer SinkFailed written now answers = absurd (no_answer answer 4 (λ is. absurd (cc is)) (λ is. absurd (cc is)) answers.0)
-told_whole answer NoMemory written now answers = absurd (no_answer answer 7 (λ is. absurd (cc is)) (λ is. absurd (cc is)) answers.0)
-told_whole answer Done written now answers = answers
-told_whole answer Refused written now answers = answers
-told_whole answer CannotListen written now answers = answers
-told_whole answer NoForm written now answers = answers
-told_whole answer SourceFailed written now answers = answers
-told_whole answer KeeperFailed written now answers = answers
-told_whole answer OtherImage written now answers = answers
-told_whole answer TooLong written now answers = answers

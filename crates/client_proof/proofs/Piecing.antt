@@ -5,7 +5,6 @@ use Rattle.std.proofs.lemmas.List.{length-append, length-take-le}
 use Rattle.outside.specs.Outside.{Told, Reads, Takes}
 use Rattle.outside.proofs.Taking.{takes_then, takes_read}
 use Rattle.client_lines.specs.declared.input.InputEnd.{InputEnd}
-use Rattle.client_lines.specs.Limits.{max_input}
 use Rattle.client_lines.specs.Input.{EndsAt}
 use Rattle.client_proof.specs.Inside.{AddsPiece, AddsWithin, ReadsAll, ReadsWithin}
 
@@ -44,17 +43,6 @@ all_read left mid rest old new end before piece = record {
   ended = piece.ended;
   whole = λ is. piece.added (λ other. absurd (cc (is, other)));
 }
-
--- one more piece stands behind the bytes
-pub one_more : (left mid rest : Option (List ℕ)) (old new : List ℕ) → Takes left mid old → AddsPiece mid rest old new None
-    → Takes left rest new × (length old < length new) × (length new ≤ max_input)
-one_more left mid rest old new before piece =
-    let is : new ≡ old ++ piece.piece = piece.added (λ other. absurd (cc other)) in
-    let long = ap length is in (
-      rw is (takes_then left mid rest old piece.piece before piece.taken),
-      rw is piece.ended.0,
-      rw is piece.ended.1,
-    )
 
 -- a piece was lost for want of memory
 pub lost : (left mid rest : Option (List ℕ)) (old : List ℕ) → Takes left mid old → ReadsWithin mid rest (length old) → ReadsWithin left rest 0

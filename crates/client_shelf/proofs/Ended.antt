@@ -1,5 +1,5 @@
 -- What a shelving leaves, put together from what its parts did.
-use Rattle.std.proofs.Common.{◌≡◌, ◌≢◌, inr, ℕ, zero, suc, List, [], ◌∷◌, ◌++◌, length, take, Option, None, Some, Result, Ok, Err, refl, sym, subst}
+use Rattle.std.proofs.Common.{◌≡◌, ◌≢◌, inr, ℕ, zero, suc, List, [], ◌∷◌, ◌++◌, take, Option, None, Some, Result, Ok, Err, refl, sym, subst}
 use Rattle.std.specs.List.{AllByRecursion}
 use Rattle.outside.specs.Keeper.{Images}
 use Rattle.tree_values.specs.Spelling.{EffectsFit}
@@ -10,10 +10,7 @@ use Rattle.world_rules.specs.Telling.{LinkTelling}
 use Rattle.world_rules.specs.InStep.{InStep}
 use Rattle.world_rules.proofs.Asks.{told_as}
 use Rattle.client_core.specs.Keeping.{IsKept}
-use Rattle.conflict_shelf.specs.declared.shelf.Shelved.{Shelved}
-use Rattle.conflict_shelf.specs.Shelf.{names_in}
 use Rattle.client_shelf.specs.declared.ends.Ending.{Ending}
-use Rattle.client_shelf.specs.declared.ends.Ending.TheVariants as ends
 use Rattle.client_shelf.specs.declared.ends.ShelvingStop.{ShelvingStop}
 use Rattle.client_shelf.specs.Shelving.{Shelving, appended_all}
 use Rattle.client_shelf.specs.Ending.{Standing, LeavesShelved, StaysOrSaves, RefusesEntries, EndsBehind}
@@ -85,16 +82,3 @@ module _ (asked : Shelving) (start log : Log) (lists : List (List Effect)) (fit 
           leaves = leaves_logged rows (take front.0 lists) (fits_front EffectsFit front.0 lists fit) front.1 logged front.3;
         },
       )
-
-  -- a pull that took no rows, or was broken off
-  pub unlogged_so : (result : Result (Option Ending) ShelvingStop) → result ≢ Ok None → PullsTo asked start log result old middle → LogsTo asked start lists result old middle
-  unlogged_so (Ok None) none pulls = absurd (none refl)
-  unlogged_so (Ok (Some ending)) none pulls = λ stuck. pulls stuck lists
-  unlogged_so (Err stop) none pulls = (pulls.0, pulls.1 lists)
-
--- ---- the end of a whole shelving
-
-module _ (asked : Shelving) (stuck start : Log) (lists : List (List Effect)) (old new : Standing) where
-  pub shelved_so : (entries : ℕ) (names : List Shelved) → entries ≡ length stuck.pending → names ≡ names_in stuck.pending → LogsTo asked start lists (Ok None) old new
-      → GoesTo asked stuck start lists (Ok (ends.Shelved entries names)) old new
-  shelved_so entries names counted told kept = (kept, counted, told)

@@ -1,5 +1,5 @@
 -- What is found under a name, and what is planned of it.
-use Rattle.std.proofs.Common.{◌≡◌, ◌≢◌, ℕ, length, List, [], ◌∷◌, Option, None, Some, Result, Ok, Err, refl, ◌∙◌, ap, subst, arith}
+use Rattle.std.proofs.Common.{◌≡◌, ◌≢◌, ℕ, length, List, [], ◌∷◌, Option, None, Some, Result, Ok, Err, refl, ◌∙◌, ap, subst}
 use Rattle.std.specs.Prelude.{IfOk}
 use Rattle.std.specs.Result.{result_map_both}
 use Rattle.std.specs.declared.alloc.AllocError.{AllocError}
@@ -9,11 +9,9 @@ use Rattle.file_paths.specs.declared.path.PathError.{PathError}
 use Rattle.mod_log.specs.declared.log.Entry.{Entry}
 use Rattle.mod_log.specs.Log.{Log, IsLog}
 use Rattle.conflict_shelf.specs.declared.shelf.Shelf.{Shelf}
-use Rattle.conflict_shelf.specs.declared.shelf.ShelfError.{ShelfError}
 use Rattle.conflict_shelf.specs.Shelf.{shelved, IsShelfOf}
 use Rattle.conflict_shelf.proofs.Shelves.{in_order}
 use Rattle.client_shelf.specs.declared.ends.Ending.{Ending}
-use Rattle.client_shelf.specs.declared.ends.Ending.TheVariants as ends
 use Rattle.client_shelf.specs.Shelving.{IsStored, IsUnused, IsUsed, unshelved, planned_in, planned_by}
 use Rattle.client_shelf.specs.Inside.{PlansInSo, PlansSo}
 use Rattle.client_shelf.proofs.Due.{keeps_once}
@@ -29,19 +27,12 @@ planned_some : (folder : FilePath) (pending : List Entry) → length pending ≢
 planned_some folder [] some = absurd (some refl)
 planned_some folder (entry ∷ entries) some = refl
 
-pub planned_none : (folder : FilePath) (pending : List Entry) → length pending ≡ 0 → planned_in folder pending ≡ Err ends.NothingPending
-planned_none folder [] none = refl
-planned_none folder (entry ∷ entries) none = absurd (omega (arith, none))
-
 pub planned_shelf : (folder : FilePath) (log : Log) (shelf : Shelf) → IsPath folder → IsLog log → length log.pending ≢ 0 → IsShelfOf folder log.pending shelf → PlansInSo folder log.pending (Ok shelf)
 planned_shelf folder log shelf path log_is some is = (
   planned_some folder log.pending some ∙ ap (result_map_both (λ lists. lists) unshelved) is.entries,
   is.names,
   (in_order folder path log shelf.entries log_is is.entries).1,
 )
-
-pub planned_fault : (folder : FilePath) (pending : List Entry) (fault : ShelfError) → length pending ≢ 0 → shelved folder pending ≡ Err fault → planned_in folder pending ≡ Err (unshelved fault)
-planned_fault folder pending fault some is = planned_some folder pending some ∙ ap (result_map_both (λ lists. lists) unshelved) is
 
 -- in the folder with this text
 pub planned_text : (text : List ℕ) (folder : FilePath) (pending : List Entry) (r : Result Shelf Ending) → path_of text ≡ Ok folder → PlansInSo folder pending r → PlansSo text pending r

@@ -1,5 +1,5 @@
 -- What the keeping of entries that were logged together leaves.
-use Rattle.std.proofs.Common.{Bool, true, false, ◌≡◌, ◌⊎◌, inl, inr, ℕ, suc, ◌+◌, ◌-◌, ◌≤◌, length, List, [], ◌++◌, map, take, drop, Option, None, Some, Result, Ok, Err, refl, sym, ◌∙◌, ap, subst, arith}
+use Rattle.std.proofs.Common.{Bool, true, false, ◌≡◌, ◌⊎◌, inl, inr, ℕ, suc, ◌+◌, ◌-◌, ◌≤◌, length, List, [], ◌++◌, map, take, drop, Option, None, Some, Ok, Err, refl, sym, ◌∙◌, ap, subst, arith}
 use Rattle.std.specs.Prelude.{if◌then◌else◌}
 use Rattle.std.specs.Str.{bytes_eq}
 use Rattle.std.proofs.lemmas.Bool.{true≢false}
@@ -37,41 +37,6 @@ module _ (name : List ℕ) (number : ℕ) (log : Log) (notes : Option (List Clie
   all_kept (Some x) None told = absurd told
   all_kept None (Some y) told = absurd (cc)
   all_kept None None told = tt
-
-  few : (bytes : List ℕ) → length bytes ≤ MAX_CLIENT_IMAGE + most_records notes → (most : Option (List ClientRecord)) → notes ≡ most → length bytes ≤ MAX_CLIENT_IMAGE + MAX_RECORDS
-  few bytes small None is = let most : most_records notes ≡ 0 = ap most_records is in omega (arith, small, most)
-  few bytes small (Some some) is = let most : most_records notes ≡ MAX_RECORDS = ap most_records is in omega (arith, small, most)
-
-  changes_next : (r : Result (Unit {0}) KeepError) (x y : Images) → KeepsNext name number log notes r x y → ChangesOnly name x y
-  changes_next (Ok done) x y next = (next.others, inr (subst IsSmall (sym next.here) (few next.bytes next.small notes refl)))
-  changes_next (Err e) x y next = (next.1, next.2)
-
-  -- and nothing else was touched
-  pub changes_kept : (r : Result (Unit {0}) KeepError) (i j : Option Images) → Told i j (KeepsNext name number log notes r) → Told i j (ChangesOnly name)
-  changes_kept r (Some x) (Some y) told = changes_next r x y told
-  changes_kept r (Some x) None told = told
-  changes_kept r None j told = told
-
--- ---- which names are touched
-
-module _ (name : List ℕ) where
-  pub changes_none : (i j : Option Images) → j ≡ i → Told i j (ChangesOnly name)
-  changes_none i j same = subst (λ (k : Option Images). Told i k (ChangesOnly name)) (sym same) (told_start i (ChangesOnly name) (λ x. ((λ other differs. refl), inl refl)))
-
-  both_change : (x y z : Images) → ChangesOnly name x y → ChangesOnly name y z → ChangesOnly name x z
-  both_change x y z first second = ((λ other differs. second.0 other differs ∙ first.0 other differs), by first.1 second.1)
-    where
-      by : StaysSmall name x y → StaysSmall name y z → StaysSmall name x z
-      by small (inr here) = inr here
-      by (inl same) (inl also) = inl (also ∙ same)
-      by (inr here) (inl same) = inr (subst IsSmall (sym same) here)
-
-  pub changes_then : (i j k : Option Images) → Told i j (ChangesOnly name) → Told j k (ChangesOnly name) → Told i k (ChangesOnly name)
-  changes_then i j k first second = told_then i j k (ChangesOnly name) (ChangesOnly name) (ChangesOnly name) first second both_change
-
-  pub changes_pulled : (client : ℕ) (before : Log) (end : PullEnd) (after : Log) (i j : Option Images) → PullKeeps name client before end after i j → Told i j (ChangesOnly name)
-  changes_pulled client before end after i j keeps =
-      told_as i j (Kept name client keeps.kept keeps.changes) (ChangesOnly name) keeps.keeping.told (λ x y kept. (kept.others, kept.small))
 
 -- ---- where nothing was changed
 

@@ -1,5 +1,5 @@
 -- What logging entries one after the other makes of a log, and of a client that is in step.
-use Rattle.std.proofs.Common.{◌≡◌, ◌≢◌, inl, inr, ℕ, zero, suc, ◌+◌, ◌<◌, ◌≤◌, length, List, [], ◌∷◌, ◌++◌, map, take, drop, get_or, Option, None, Some, Result, Ok, Err, refl, sym, ◌∙◌, ap, subst, append_assoc, false, arith}
+use Rattle.std.proofs.Common.{◌≡◌, ◌≢◌, inl, inr, ℕ, zero, suc, ◌+◌, ◌<◌, ◌≤◌, length, List, [], ◌∷◌, ◌++◌, map, take, drop, get_or, Option, None, Some, Result, Ok, Err, refl, sym, ◌∙◌, ap, subst, append_assoc, false}
 use Rattle.std.specs.Prelude.{IsSome}
 use Rattle.std.specs.List.{AllByRecursion}
 use Rattle.std.proofs.lemmas.List.{append-nil, take_more, take-append-drop}
@@ -171,8 +171,3 @@ module _ (lists : List (List Effect)) (i : ℕ) (effects : List Effect) (start l
   one_refused refusal e =
       ap (λ some. appended_all some start) (sym (take-append-drop (i + 1) lists)) ∙ each-append (take (i + 1) lists) (drop (i + 1) lists) (Ok start)
       ∙ ap (λ (q : Result Log LogError). appended_each q (drop (i + 1) lists)) (here (Err refusal) e) ∙ each_refused (drop (i + 1) lists) refusal
-
-pub one_fits : (lists : List (List Effect)) (i : ℕ) (effects : List Effect) → i < length lists → effects ≡ get_or lists i effects → AllByRecursion EffectsFit lists → effects ≢ []
-one_fits [] i effects within is fits = absurd (omega (arith, within))
-one_fits (first ∷ lists) zero effects within is fits = λ none. let some : 1 ≤ length effects = subst (λ (e : List Effect). 1 ≤ length e) (sym is) fits.0.some in omega (arith, some, ap length none)
-one_fits (first ∷ lists) (suc i) effects within is fits = one_fits lists i effects (omega (arith, within)) is fits.1

@@ -1,6 +1,6 @@
 -- What is withheld among rows.
 use Rattle.std.proofs.Common.{◌≡◌, ℕ, ◌+◌, Bool, true, false, not, List, [], ◌∷◌, ◌++◌, length, take, drop, append-nil, refl, sym, ap, ◌∙◌, cond, ◌<◌, ◌≤◌, get_or, append_assoc, Some, None}
-use Rattle.std.specs.List.{filter, cons_option}
+use Rattle.std.specs.List.{cons_option}
 use Rattle.std.specs.Str.{is_utf8, IsUtf8}
 use Rattle.std.proofs.lemmas.List.{take-append-drop, drop_more, drop_all}
 use Rattle.std.proofs.lemmas.List.Elements.{filter-append}

@@ -2,7 +2,6 @@
 use Rattle.std.proofs.Common.{◌≡◌, ◌⊎◌, inl, inr, ℕ, suc, ◌≤◌, false, List, [], ◌++◌, Result, Ok, Err, Vec, IfOk, sym, ◌∙◌, subst, arith}
 use Rattle.std.specs.Prelude.{IfErr, OnOk, OnErr}
 use Rattle.std.specs.declared.alloc.Global.{Global}
-use Rattle.std.proofs.Math.Nat.{le_trans}
 use Rattle.outside.specs.Outside.{Rose}
 use Rattle.tree_values.specs.Lists.{IsIn}
 use Rattle.tree_values.specs.Tree.{Volume}
@@ -20,24 +19,18 @@ use Rattle.mem_wires.specs.declared.fate.Fate.{Fate}
 use Rattle.mem_wires.specs.declared.fate.Fate.TheVariants.{Pass, LoseRequest, LoseReply, Twice, Old, Late, Inject, Stop}
 use Rattle.mem_wires.specs.Wire.{Wire, world_of}
 use Rattle.mem_wires.specs.Fates.{answered, is_trouble, troubles_after}
-use Rattle.mem_wires.specs.Spending.{TakesFront, quiet_behind, quiet_front, taken_then}
+use Rattle.mem_wires.specs.Spending.{TakesFront}
 use Rattle.mem_net.specs.Scenes.{Scene, with_world, with_troubles, IsHandled, MeetsAlone, MeetsOperation, UnlessMemory, IsDecided, IsReached, IsMet}
 use Rattle.mem_net.specs.Scenes.{OnMemory, StaysButWorld, IsHandledInPart, handlings, IsCutBefore, IsCutShort}
 use Rattle.mem_wires.specs.Underway.{MovedFree, AsksSent, MeetsUnlessMemory, KeepsFates}
 use Rattle.mem_net.specs.Inside.{TakesBeside}
 use Rattle.mem_wires.proofs.Steps.{got_in, noted_ask}
-use Rattle.mem_wires.proofs.Spent.{quiet_after}
 use Rattle.mem_net.proofs.Handling.{scene_by, stays_by}
 
 -- ---- the two errors
 
 not_failed : LinkFailed ≡ LinkMemory → ⊥
 not_failed is = absurd (cc)
-
-pub failed_not : {T : Type 0} (result : Result T LinkError) → IfErr result (λ error. error ≡ LinkMemory) → result ≡ Err LinkFailed → ⊥
-failed_not (Ok x) memory is = absurd (cc)
-failed_not (Err LinkMemory) memory is = absurd (cc)
-failed_not (Err LinkFailed) memory is = not_failed memory
 
 -- ---- an ask that the wires meet
 
@@ -128,19 +121,6 @@ old_once k to address m a d (Err LinkMemory) met = met
 
 pub beside_quiet : (fate : Fate) (a b : List Fate) (x y : ℕ) → TakesFront a b x y → TakesBeside fate a b x y
 beside_quiet fate a b x y takes = record { taken = takes.taken; split = takes.split; later = takes.later; calm = λ quiet others. takes.calm others }
-
-pub beside_same : (fate : Fate) (result : Result (Vec ℕ Global) LinkError) (a b : List Fate) (x y : ℕ) → b ≡ a → y ≡ troubles_after fate result x → x ≤ y → TakesBeside fate a b x y
-beside_same fate result a b x y same counted rises =
-    record { taken = []; split = same; later = rises; calm = λ quiet others. counted ∙ quiet_after fate result x quiet }
-
-pub beside_then : (fate : Fate) (a b d : List Fate) (x y z : ℕ) → TakesFront a b x y → TakesBeside fate b d y z → TakesBeside fate a d x z
-beside_then fate a b d x y z first second =
-    record {
-      taken = first.taken ++ second.taken;
-      split = taken_then first.taken second.taken a b d first.split second.split;
-      later = le_trans first.later second.later;
-      calm = λ quiet others. second.calm quiet (quiet_behind first.taken second.taken others) ∙ first.calm (quiet_front first.taken second.taken others);
-    }
 
 -- a count that rose after a while rose in the whole
 pub rose_later : (x y z : ℕ) → x ≤ y → Rose y z → Rose x z

@@ -21,7 +21,6 @@ use Rattle.mem_wires.specs.Fates.{decides, is_trouble, left_by, befallen, troubl
 use Rattle.mem_wires.specs.Spending.{AreQuiet, TakesFront, quiet_front, quiet_behind, taken_then}
 use Rattle.mem_net.specs.Scenes.{Scene, with_world, with_fates, IsHandled, IsLateOperation, Befalls, FrontDecides, Reaches, IsReached, TakesFates}
 use Rattle.mem_net.specs.Scenes.{IsUnhandled, BefallsInPart, AllBefall, IsCutBefore}
-use Rattle.mem_wires.specs.Underway.{MovedFree}
 use Rattle.mem_net.specs.Inside.{GoesFree, FrontWaits, TakesBeside}
 use Rattle.mem_wires.proofs.Steps.{free_none, free_then, free_as}
 use Rattle.mem_wires.proofs.Deciding.{left_by_waiting, gone_waiting, taken_is_end}
@@ -38,24 +37,11 @@ pub record Nears (start now : Scene) (old new : Wire) : Type 0 where
 
 -- ---- moves of no client's own, in a row
 
-pub goes_none : (wires : Wire) → GoesFree wires wires
-goes_none wires = record { moved = free_none (world_of wires); takes = takes_none wires.fates wires.troubles }
-
 pub goes_then : (a b d : Wire) → GoesFree a b → GoesFree b d → GoesFree a d
 goes_then a b d first second = record {
   moved = free_then (world_of a) (world_of b) (world_of d) first.moved second.moved;
   takes = takes_then a.fates b.fates d.fates a.troubles b.troubles d.troubles first.takes second.takes;
 }
-
--- the same, where nothing but the world went on
-pub goes_kept : (a b : Wire) → MovedFree (world_of a) (world_of b) → (b.fates ≡ a.fates) × (b.troubles ≡ a.troubles) → GoesFree a b
-goes_kept a b moved kept = record {
-  moved = moved;
-  takes = record { taken = []; split = kept.0; later = omega (arith, kept.1); calm = λ quiet. kept.1 };
-}
-
-pub goes_same : (a b : Wire) → b ≡ a → GoesFree a b
-goes_same a b same = subst (GoesFree a) (sym same) (goes_none a)
 
 pub stays_in_part : (fate : Fate) (scene : Scene) → BefallsInPart fate scene scene
 stays_in_part fate scene = inl refl
@@ -127,9 +113,6 @@ waits_by : (start now : List Fate) (fate : Fate) (rest : List Fate) → now ≡ 
 waits_by start now fate rest front first_waits (inl same) = λ first others is.
     ap (λ (l : List Fate). decides (first_of fate l)) (sym is ∙ sym same ∙ front) ∙ first_waits
 waits_by start now fate rest front first_waits (inr waits) = waits
-
-pub nears_start : (start : Scene) (wires : Wire) → Nears start start wires wires
-nears_start start wires = record { steps = 0; reaches = λ count fate reached reaches. subst (λ (n : ℕ). Reaches n start fate reached) (omega arith) reaches; befell = refl; goes = goes_none wires; front = inl refl }
 
 -- a fate was taken, and may have happened
 module _ (start now : Scene) (old mid taken new : Wire) (fate : Fate) (so_far : Nears start now old mid)

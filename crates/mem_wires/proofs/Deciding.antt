@@ -1,10 +1,9 @@
 -- What happens before an ask is decided.
-use Rattle.std.proofs.Common.{◌≡◌, ℕ, suc, ◌+◌, Bool, true, false, List, [], ◌∷◌, ◌++◌, Some, None, Result, Ok, Err, Vec, drop, inl, inr, refl, sym, ◌∙◌, ap, subst}
+use Rattle.std.proofs.Common.{◌≡◌, ℕ, suc, ◌+◌, Bool, true, false, List, [], ◌∷◌, ◌++◌, Some, None, Result, Ok, Err, Vec, drop, refl, sym, ◌∙◌, ap, subst}
 use Rattle.std.specs.Prelude.{if◌then◌else◌}
 use Rattle.std.specs.declared.alloc.Global.{Global}
 use Rattle.std.proofs.lemmas.List.{drop-drop}
 use Rattle.mem_wires.specs.declared.fate.Fate.{Fate}
-use Rattle.tree_values.specs.Lists.{IsIn}
 use Rattle.world_rules.specs.declared.link.LinkError.{LinkError}
 use Rattle.world_rules.specs.declared.link.LinkError.TheVariants.{Failed as LinkFailed, Memory as LinkMemory}
 use Rattle.world_rules.specs.World.{World}
@@ -67,23 +66,6 @@ taken_is_end [] fates left same = (0, same)
 taken_is_end (fate ∷ taken) fates left are =
     subst (λ (l : List Fate). IsEndOf left l) (sym are.1)
     (end_of_end (fate ∷ are.0) (left_by fate are.0) left (left_by_end fate are.0) (taken_is_end taken (left_by fate are.0) left are.2))
-
--- without a stop among them they are those behind the taken ones
-pub unstopped : (taken fates left : List Fate) → ((fate : Fate) → IsIn fate taken → fate ≡ Stop → ⊥) → AreTakenFrom taken fates left → fates ≡ taken ++ left
-unstopped [] fates left none same = sym same
-unstopped (fate ∷ taken) fates left none are =
-    are.1 ∙ ap (λ (l : List Fate). fate ∷ l) (sym (gone fate are.0 (none fate (inl refl)))
-    ∙ unstopped taken (left_by fate are.0) left (λ other among. none other (inr among)) are.2)
-  where
-    gone : (fate : Fate) (rest : List Fate) → (fate ≡ Stop → ⊥) → left_by fate rest ≡ rest
-    gone Stop rest other = absurd (other refl)
-    gone Pass rest other = refl
-    gone LoseRequest rest other = refl
-    gone LoseReply rest other = refl
-    gone Twice rest other = refl
-    gone (Old k) rest other = refl
-    gone (Late k) rest other = refl
-    gone (Inject frame) rest other = refl
 
 -- the fates left by the deciding one are an end of all
 pub left_is_end : (fates : List Fate) → IsEndOf (left_after fates) fates

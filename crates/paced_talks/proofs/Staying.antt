@@ -3,7 +3,7 @@ use Rattle.std.proofs.Common.{◌≡◌, ◌⊎◌, inl, inr, ℕ, zero, suc, �
 use Rattle.std.specs.Prelude.{filter, remove, slice_set}
 use Rattle.std.specs.List.{AllByRecursion}
 use Rattle.paced_talks.specs.declared.asking.Asking.{Asking}
-use Rattle.paced_talks.specs.Coming.{IsIdlest, LetsIdlestGo, StandIn, KeepsWhole}
+use Rattle.paced_talks.specs.Coming.{LetsIdlestGo, StandIn, KeepsWhole}
 
 -- ---- lists that stand in others
 

@@ -35,10 +35,6 @@ counted_up by count = min (count + by) most_counted
 abbrev pub Loses : ℕ → ℕ → ℕ → ℕ → Type 0
 Loses before after lost now = (after ≤ before) × (now ≡ counted_up (before - after) lost)
 
--- the most connections that were answered and may still send
-abbrev pub most_parting : ℕ
-most_parting = 64
-
 -- for how many nanoseconds a peer that was answered may be silent
 abbrev pub silence : ℕ
 silence = 200_000_000

@@ -1,5 +1,5 @@
 -- What agrees at one place, and what the places before say of all.
-use Rattle.std.proofs.Common.{◌≡◌, ℕ, true, false, List, [], ◌∷◌, ◌++◌, inr, sym, ◌∙◌, ap, subst, append_assoc, ◌+◌, ◌<◌, length, take, get_or, Option, None, Result, Ok, Err, IfOk}
+use Rattle.std.proofs.Common.{◌≡◌, ℕ, true, false, List, [], ◌∷◌, ◌++◌, sym, ◌∙◌, ap, subst, ◌+◌, ◌<◌, length, take, get_or, Option, None, Result, Ok, Err, IfOk}
 use Rattle.std.specs.Str.{bytes_eq}
 use Rattle.std.specs.Prelude.{slice_get}
 use Rattle.std.specs.List.{AllByRecursion}
@@ -29,7 +29,7 @@ use Rattle.replay_judge.specs.Agreement.{Mends, is_sketched, StandsFor, Agrees, 
 use Rattle.replay_judge.specs.Judgement.{IsReplay, replay_changes, IsJudgement}
 use Rattle.replay_judge.specs.declared.verdict.Verdict.{Verdict}
 use Rattle.replay_judge.specs.declared.verdict.Verdict.TheVariants.{Agree, Status, OddTree, Mismatch}
-use Rattle.replay_judge.specs.Inside.{IsBeyondMending, HasNoStandIn, IsNoPut, IsComparison, Decides}
+use Rattle.replay_judge.specs.Inside.{IsBeyondMending, HasNoStandIn, IsComparison, Decides}
 
 -- ---- one place
 
@@ -59,22 +59,7 @@ put_disagrees p sketch content found e none agreed h =
     let same : h.0 ≡ content = ap content_of (sym h.2 ∙ e) in
     none h.1 (subst (λ c. StandsFor (is_sketched sketch c) sketch c h.1) same h.4)
 
-pub other_disagrees : (p : FilePath) (sketch : Sketch) (found : Effect) → IsNoPut p found → Disagree (of_sketch.Put p sketch) found
-unfolding Agrees
-other_disagrees p sketch found none agreed h = none h.0 h.2
-
 -- ---- all places
-
-pub decides_first : (wanted : List SketchEffect) (found : List Effect) → Decides wanted found wanted found []
-decides_first wanted found = record { agrees = λ more all. all; differs = λ path first. first }
-
-pub decides_next : (wanted more : List SketchEffect) (found rest agreed : List Effect) (s : SketchEffect) (e a : Effect)
-    → Decides wanted found (s ∷ more) (e ∷ rest) agreed → Agrees s e a → Decides wanted found more rest (agreed ++ a ∷ [])
-decides_next wanted more found rest agreed s e a decides here =
-    record {
-      agrees = λ later all. subst (AllAgree wanted found) (sym (append_assoc agreed (a ∷ []) later)) (decides.agrees (a ∷ later) (here, all));
-      differs = λ path first. decides.differs path (inr ((a, here), first));
-    }
 
 pub decides_all : (wanted left : List SketchEffect) (found left_found agreed : List Effect) → length left ≡ 0 → ◌≡◌ {A = Option Effect} None (slice_get left_found 0)
     → Decides wanted found left left_found agreed → AllAgree wanted found agreed

@@ -1,12 +1,11 @@
 -- Replies in frames.
-use Rattle.std.proofs.Common.{◌≡◌, ◌∙◌, ℕ, List, [], ◌∷◌, ◌++◌, Option, Result, Ok, Err, ap, refl, sym, arith}
-use Rattle.std.specs.Prelude.{option_to_list}
-use Rattle.std.proofs.lemmas.List.{append-nil, append_assoc}
+use Rattle.std.proofs.Common.{◌≡◌, ◌∙◌, [], ◌∷◌, ◌++◌, Result, Ok, Err, ap, refl, arith}
+use Rattle.std.proofs.lemmas.List.{append-nil}
 use Rattle.wire_frames.specs.Frame.{IsValid, frame}
 use Rattle.wire_frames.proofs.Frames.{frame_found, frame_again}
 use Rattle.wire_frames.specs.declared.message.Message.{Message}
 use Rattle.wire_frames.specs.declared.message.Message.TheVariants.{Store, Pull, Malformed}
-use Rattle.world_rules.specs.Served.{Served, IsServed, TakenEntry, refusal, answer, state_after, taken_of}
+use Rattle.world_rules.specs.Served.{Served, IsServed, refusal, answer, state_after, taken_of}
 use Rattle.world_rules.proofs.Replies.{answer-valid}
 use Rattle.wire_frames.specs.declared.message.FrameError.{FrameError}
 use Rattle.wire_frames.specs.Malformed.{refusal_code, refusal_offset}
@@ -14,8 +13,6 @@ use Rattle.wire_frames.specs.Reading.{frame_of}
 use Rattle.std.specs.List.{cons_option}
 use Rattle.std.specs.Result.{result_ok}
 use Rattle.server_core.specs.Framing.{answer_to, state_with, is_any, takes_read, frames_after, messages_of}
-use Rattle.store_image.specs.declared.record.ServerRecord.{ServerRecord}
-use Rattle.server_core.specs.Keeping.{record_of_all, records_taken}
 use Rattle.server_core.specs.Laws.{state_after_all, taken_among, FramesAreAnswered, OtherBytesAreMalformed, FramesActAsTheirMessages, EntriesTellWhatChanges}
 
 not_for_server : (s : Served) → IsValid (Malformed 7 0)
@@ -59,27 +56,3 @@ entries_tell bytes s = by (frame_of bytes)
     by : (read : Result Message FrameError) → is_any (taken_among (cons_option (result_ok read) []) s) ≡ takes_read read s
     by (Ok message) = ap is_any (append-nil (taken_of message s))
     by (Err refusal) = refl
-
-pub taken_among-append : (xs ys : List (List ℕ)) (s : Served) → taken_among (messages_of (xs ++ ys)) s ≡ taken_among (messages_of xs) s ++ taken_among (messages_of ys) (frames_after xs s)
-taken_among-append [] ys s = refl
-taken_among-append (bytes ∷ frames) ys s = by (frame_of bytes) (taken_among-append frames ys)
-  where
-    by : (read : Result Message FrameError)
-        → ((t : Served) → taken_among (messages_of (frames ++ ys)) t ≡ taken_among (messages_of frames) t ++ taken_among (messages_of ys) (frames_after frames t))
-        → taken_among (cons_option (result_ok read) (messages_of (frames ++ ys))) s ≡ taken_among (cons_option (result_ok read) (messages_of frames)) s ++ taken_among (messages_of ys) (frames_after frames (state_with read s))
-    by (Ok message) rest =
-        ap (λ es. taken_of message s ++ es) (rest (state_after message s))
-        ∙ sym (append_assoc (taken_of message s) (taken_among (messages_of frames) (state_after message s)) (taken_among (messages_of ys) (frames_after frames (state_after message s))))
-    by (Err refusal) rest = rest s
-
--- the record of one frame that spells a message
-pub record-one : (message : Message) (bytes : List ℕ) (s : Served) (note : Option ServerRecord) → frame_of bytes ≡ Ok message → note ≡ record_of_all (taken_of message s) → option_to_list note ≡ records_taken (bytes ∷ []) s
-record-one message bytes s told is noted =
-    ap option_to_list noted
-    ∙ ap (λ (es : List TakenEntry). option_to_list (record_of_all es)) (sym (append-nil (taken_of message s)))
-    ∙ ap (λ (read : Result Message FrameError). option_to_list (record_of_all (taken_among (cons_option (result_ok read) []) s))) (sym is)
-    ∙ sym (append-nil _)
-
--- there is none of one that is refused
-pub record-none : (refusal : FrameError) (bytes : List ℕ) (s : Served) → frame_of bytes ≡ Err refusal → [] ≡ records_taken (bytes ∷ []) s
-record-none refusal bytes s is = ap (λ (read : Result Message FrameError). option_to_list (record_of_all (taken_among (cons_option (result_ok read) []) s)) ++ []) (sym is)

@@ -47,13 +47,6 @@ seen_on (Refused cause) (looks.Outdated path theirs ours) seen on = absurd seen
 seen_on (Refused cause) (looks.Refused index fault) seen on = on
 seen_on (Refused cause) (looks.Taken undos) seen on = absurd seen
 
-pub seen_early : (j : StoreVerdict) → IsLookedAs j looks.Early → j ≡ Early
-seen_early Repeated seen = absurd seen
-seen_early Early seen = refl
-seen_early (Outdated conflict) seen = absurd seen
-seen_early (Refused cause) seen = absurd seen
-seen_early (Taken volume) seen = absurd seen
-
 pub seen_outdated : (j : StoreVerdict) (path : FilePath) (theirs ours : ℕ) → IsLookedAs j (looks.Outdated path theirs ours) → j ≡ Outdated (record { path = path; theirs = theirs; ours = ours })
 seen_outdated Repeated path theirs ours seen = absurd seen
 seen_outdated Early path theirs ours seen = absurd seen

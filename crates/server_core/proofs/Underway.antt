@@ -1,7 +1,7 @@
 -- What holds while the entries of a store are gone through: each step leaves the others to be gone through, and each reply is valid.
-use Rattle.std.proofs.Common.{◌≡◌, inr, ℕ, ◌+◌, true, List, ◌∷◌, ◌∙◌, arith}
+use Rattle.std.proofs.Common.{◌≡◌, ℕ, ◌+◌, List, ◌∷◌, ◌∙◌, arith}
 use Rattle.wire_frames.specs.declared.parts.Part.{Part}
-use Rattle.world_rules.specs.Served.{Served, IsServed, StoreVerdict, verdict, served_after, passes, end_of}
+use Rattle.world_rules.specs.Served.{Served, IsServed, StoreVerdict, verdict}
 use Rattle.world_rules.proofs.Sending.{client_ok, number_ok}
 use Rattle.world_rules.proofs.Replies.{IsSound, entry_sound}
 use Rattle.server_core.specs.declared.server.Underway.{Underway}
@@ -16,20 +16,3 @@ module _ (store : Underway) (done : ℕ) (part : Part) (parts : List Part) (s : 
   first_sound =
       entry_sound store.client store.number store.upto (client_ok store.client under.low under.high) (number_ok store.number under.numbered) under.number_small under.upto_small under.behind
       (store.number + done) part s under.fits.0 served (omega arith) (omega (arith, under.small)) under.next
-
-  -- where it passes, the others are to be gone through
-  pub later_underway : passes judgement ≡ true → IsUnderway store (done + 1) parts (served_after store.client (store.number + done) judgement s)
-  later_underway on =
-      let up = first_sound.up on in
-      record {
-        low = under.low;
-        high = under.high;
-        numbered = under.numbered;
-        number_small = under.number_small;
-        upto_small = under.upto_small;
-        behind = under.behind;
-        small = omega (arith, under.small);
-        ends = let same : end_of (store.number + (done + 1)) parts ≡ end_of (store.number + done) (part ∷ parts) = omega arith in same ∙ under.ends;
-        fits = under.fits.1;
-        next = inr (omega (arith, up));
-      }

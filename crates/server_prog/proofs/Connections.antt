@@ -1,7 +1,7 @@
 -- Connections that are served one after the other.
-use Rattle.std.proofs.Common.{◌≡◌, ◌≤◌, ◌<◌, ◌⊎◌, inl, inr, ℕ, ◌+◌, false, ◌||◌, List, [], ◌∷◌, ◌++◌, map, None, Some, refl, sym, ◌∙◌, ap, subst}
+use Rattle.std.proofs.Common.{◌≡◌, ◌≤◌, ◌<◌, ◌⊎◌, inl, inr, ℕ, ◌+◌, false, ◌||◌, List, [], ◌∷◌, ◌++◌, map, None, refl, sym, ◌∙◌, ap, subst}
 use Rattle.std.proofs.lemmas.List.{append-nil}
-use Rattle.std.specs.Prelude.{Vec, Option, is_some, option_to_list}
+use Rattle.std.specs.Prelude.{Vec, Option, is_some}
 use Rattle.std.specs.declared.alloc.Global.{Global}
 use Rattle.outside.specs.Outside.{Told}
 use Rattle.outside.specs.Port.{PortTelling}
@@ -10,19 +10,18 @@ use Rattle.port_serving.specs.declared.serving.Came.TheVariants as came
 use Rattle.port_serving.specs.declared.serving.Taking.{Taking}
 use Rattle.port_serving.specs.declared.serving.Taking.TheVariants as taking
 use Rattle.port_serving.specs.declared.serving.Tally.{Tally}
-use Rattle.port_serving.specs.Serving.{Connection, Missed, Answered, exchanges, frames_taken, connection_of, Uses, IsAtHand, TakesConnection, Replies, tallied}
+use Rattle.port_serving.specs.Serving.{Connection, exchanges, frames_taken, connection_of, Uses, IsAtHand, TakesConnection, tallied}
 use Rattle.port_serving.proofs.Connections as ports
 use Rattle.store_image.specs.declared.record.ServerRecord.{ServerRecord}
 use Rattle.world_rules.specs.Served.{Served}
-use Rattle.server_core.specs.Framing.{frame_answer, frame_after, frames_after, takes, change}
-use Rattle.server_core.specs.Keeping.{records_taken}
+use Rattle.server_core.specs.Framing.{frame_after, frames_after, takes, change}
 use Rattle.server_prog.specs.declared.journal.ServerJournal.{ServerJournal}
 use Rattle.server_prog.specs.declared.journal.ServerJournal.TheVariants.{Unsaved}
 use Rattle.server_prog.specs.Serving.{ServedBy, KeptAs, IsKeptAfter, PerhapsKept, first_and_records, IsRecordedAfter, ServesConnections, ServerTelling}
 use Rattle.server_prog.specs.Inside.{is_saved, Journals, Puts, KeepsOn, ServerMayKeep, ServesNext, BreaksConnection, ServesAll, ServesFront}
 use Rattle.server_prog.proofs.Appending.{still, puts_none}
 use Rattle.server_prog.proofs.Recording.{counted_none, counted_frames, recorded}
-use Rattle.server_prog.proofs.Kept.{Kept, kept_same, told_then, told_with, or_false, change-append, kept_more, perhaps_more, kept_one, perhaps_one}
+use Rattle.server_prog.proofs.Kept.{Kept, kept_same, told_then, told_with, or_false, change-append, kept_more, perhaps_more, perhaps_one}
 use Rattle.port_serving.proofs.Connections.{UsesSoFar}
 use Rattle.server_prog.proofs.SoFar.{IsJournalOf, ServesSoFar}
 
@@ -79,29 +78,6 @@ module _ (j : ServerJournal) (s : Served) (a b : ServerTelling) where
     puts = puts_nothing same;
   }
 
-  pub was_missed : Journals j s a.kept → Uses (Missed ∷ []) a.port b.port → b.kept ≡ a.kept → ServesNext came.Missed j j s s a b
-  was_missed journals uses same = record {
-    frame = [];
-    reply = [];
-    uses = uses;
-    serves = record { replies = refl; kept = subst (λ (k : Kept). Told a.kept k (KeptAs (change [] s) s)) (sym same) (kept_same a.kept s) };
-    none = λ is. absurd (cc is);
-    journals = stays journals same;
-    saved = sym (or_false (is_saved j));
-    note = None;
-    noted = refl;
-    puts = puts_nothing same;
-  }
-
-  -- no frame was taken
-  pub breaks_before : IsAtHand [] a.port b.port → b.kept ≡ a.kept → BreaksConnection j s a b
-  breaks_before at_hand same = record { frames = []; at_hand = at_hand; kept = by a.kept b.kept same }
-    where
-      by : (k l : Kept) → l ≡ k → Told k l (λ o n. KeptAs (is_saved j) s o n ⊎ (n ≡ o))
-      by None l same = same
-      by (Some o) None same = absurd (cc same)
-      by (Some o) (Some n) same = inr cc
-
   -- the frame was not served
   pub breaks_unserved : (frame : List ℕ) → Journals j s a.kept → IsAtHand (frame ∷ []) a.port b.port → b.kept ≡ a.kept → BreaksConnection j s a b
   breaks_unserved frame journals at_hand same = record {
@@ -121,47 +97,6 @@ module _ (j : ServerJournal) (s : Served) (a b : ServerTelling) where
     pub breaks_unanswered : (next : ServerJournal) → IsAtHand (frame ∷ []) a.port b.port → KeepsOn note j next t a.kept b.kept → BreaksConnection j s a b
     breaks_unanswered next at_hand keeps =
         breaks_unkept at_hand (told_with a.kept b.kept (KeptAs (is_some note) t) (λ o n. KeptAs (is_saved j) s o n ⊎ KeptAs (is_some note) t o n) (λ o n k. inr k) keeps.kept)
-
-    -- it was answered, or the port failed to
-    pub was_served : (how : Came) (reply : List ℕ) (next : ServerJournal) → Replies how frame reply a.port b.port → reply ≡ frame_answer frame s → option_to_list note ≡ records_taken (frame ∷ []) s → KeepsOn note j next t a.kept b.kept
-        → ServesNext how j next s t a b
-    was_served how reply next replies answers noted keeps = by how replies.is replies.uses
-      where
-        one : ServesConnections (Answered frame reply ∷ []) s t a.kept b.kept
-        one = record { replies = (answers, after); kept = kept_one (is_some note) frame s t a.kept b.kept is keeps.kept }
-
-        saved : is_saved next ≡ (is_saved j || change (frame ∷ []) s)
-        saved = keeps.saved ∙ ap (λ c. is_saved j || c) (is ∙ sym (or_false (takes frame s)))
-
-        by : (how : Came) → (how ≡ came.Unanswered) ⊎ (how ≡ came.Answered) → Uses (connection_of how frame reply) a.port b.port → ServesNext how j next s t a b
-        by came.NoConnection (inl is) uses = absurd (cc is)
-        by came.NoConnection (inr is) uses = absurd (cc is)
-        by came.Missed (inl is) uses = absurd (cc is)
-        by came.Missed (inr is) uses = absurd (cc is)
-        by came.Unanswered is uses = record {
-          frame = frame;
-          reply = reply;
-          uses = uses;
-          serves = record { replies = one.replies; kept = one.kept };
-          none = λ is. absurd (cc is);
-          journals = keeps.journals;
-          saved = saved;
-          note = note;
-          noted = noted;
-          puts = keeps.puts;
-        }
-        by came.Answered is uses = record {
-          frame = frame;
-          reply = reply;
-          uses = uses;
-          serves = one;
-          none = λ is. absurd (cc is);
-          journals = keeps.journals;
-          saved = saved;
-          note = note;
-          noted = noted;
-          puts = keeps.puts;
-        }
 
 -- ---- so far
 

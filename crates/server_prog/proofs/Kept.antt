@@ -90,10 +90,6 @@ perhaps_more fs hs saved s t is same x y z first (inr second) =
 
 -- ---- one frame
 
--- what is kept of a frame that was taken
-pub kept_one : (changed : Bool) (frame : List ℕ) (s t : Served) (a b : Kept) → changed ≡ takes frame s → Told a b (KeptAs changed t) → Told a b (KeptAs (change (frame ∷ []) s) t)
-kept_one changed frame s t a b is kept = subst (λ (p : Bool). Told a b (KeptAs p t)) (is ∙ sym (or_false (takes frame s))) kept
-
 -- where its keeping was refused
 pub perhaps_one : (changed saved : Bool) (frame : List ℕ) (s t : Served) (a b : Kept) → changed ≡ takes frame s → t ≡ frame_after frame s → Told a b (λ o n. KeptAs saved s o n ⊎ KeptAs changed t o n)
     → Told a b (λ o n. KeptAs saved s o n ⊎ IsKeptAfter (frame ∷ []) s o n)

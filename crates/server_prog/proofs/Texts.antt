@@ -1,24 +1,14 @@
 -- How a run ends that writes a text of the volume that is kept.
-use Rattle.std.proofs.Common.{◌≡◌, ◌≤◌, inl, inr, ℕ, List, length, take, Option, Ok, Err, refl, subst}
-use Rattle.std.specs.Prelude.{IsErrOf}
+use Rattle.std.proofs.Common.{◌≡◌, ◌≤◌, inr, ℕ, List, length, take, Option, Ok, Err, subst}
 use Rattle.outside.specs.Outside.{Adds}
 use Rattle.outside.specs.declared.errors.SinkError.{SinkError}
 use Rattle.outside.specs.declared.errors.SinkError.TheVariants.{Failed, Memory}
 use Rattle.tree_values.specs.Tree.{Volume}
 use Rattle.world_rules.specs.Served.{Served}
-use Rattle.server_prog.specs.declared.run.Stopped.{Stopped}
-use Rattle.server_prog.specs.declared.run.Stopped.TheVariants as stops
-use Rattle.server_prog.specs.Run.{Opens, OpensNone, WritesByEnd}
+use Rattle.server_prog.specs.Run.{Opens, WritesByEnd}
 use Rattle.server_prog.specs.Inside.{stopped_by_sink}
 
 module _ (text : Volume → List ℕ) (kept : Option (Option (List ℕ))) (written : Option (List ℕ)) where
-  -- no server was opened
-  pub writes_none : {T : Type 0} (e : Stopped) → (IsErrOf {T = T} (Err e) stops.Sink → ⊥) → (IsErrOf {T = T} (Err e) stops.Image → OpensNone kept) → WritesByEnd text kept written written (Err e)
-  writes_none stops.Sink no_sink none = absurd (no_sink refl)
-  writes_none stops.Keeper no_sink none = refl
-  writes_none stops.Image no_sink none = (refl, none refl)
-  writes_none stops.Memory no_sink none = inl refl
-
   module _ (now : Option (List ℕ)) (first : Served) (opens : Opens kept first) (items : List ℕ) (is : items ≡ text first.volume) where
     -- the whole text was written
     pub writes_all : Adds written now items → WritesByEnd text kept written now (Ok tt)

@@ -5,13 +5,10 @@ use Rattle.std.specs.Prelude.{nat_lt, is_some}
 use Rattle.std.specs.List.{position, position_or_len}
 use Rattle.std.proofs.lemmas.List.Sums.{position_or_len_is, fails_before_first, passes_at_first}
 use Rattle.std.proofs.lemmas.Bool.Decides.{nat_tests}
+use Rattle.byte_fields.proofs.Facts.{not_true}
 use Rattle.file_paths.proofs.Loops.{position_step}
 use Rattle.memchr.specs.Find.{IsFirstByte}
 use Rattle.shell_lang.specs.Lines.{is_line_end}
-
-passes_not : (test : Bool) → (test ≡ true → ⊥) → test ≡ false
-passes_not true never = absurd (never refl)
-passes_not false never = refl
 
 first_at : (p : ℕ → Bool) (text : List ℕ) (i : ℕ) → i < length text → position_or_len p text ≡ i → position p text ≡ Some i
 first_at p text i lt at =
@@ -27,12 +24,12 @@ pub found_first : (test p : ℕ → Bool) (text : List ℕ) (found : Option ℕ)
 found_first test p text None same nowhere_found =
     sym (none_at_end p text
     (position_or_len_is p text (length text) 0 (omega arith)
-    (λ k lt. sym (same (get_or text k 0)) ∙ passes_not (test (get_or text k 0)) (nowhere_found k (omega arith) lt))
+    (λ k lt. sym (same (get_or text k 0)) ∙ not_true (test (get_or text k 0)) (nowhere_found k (omega arith) lt))
     (λ lt. absurd (omega (arith, lt)))))
 found_first test p text (Some i) same (first, here) =
     sym (first_at p text i first.high
     (position_or_len_is p text i 0 (omega (arith, first.high))
-    (λ k lt. sym (same (get_or text k 0)) ∙ passes_not (test (get_or text k 0)) (first.before k (omega arith) lt))
+    (λ k lt. sym (same (get_or text k 0)) ∙ not_true (test (get_or text k 0)) (first.before k (omega arith) lt))
     (λ lt. sym (same (get_or text i 0)) ∙ here)))
 
 -- the first of a text stays it, whatever follows

@@ -1,12 +1,9 @@
 -- The laws of entries one after the other that break a rule.
-use Rattle.std.proofs.Common.{◌≡◌, ◌⊎◌, ℕ, zero, suc, ◌+◌, ◌-◌, ◌^◌, ◌<◌, ◌≤◌, Bool, true, false, ◌&&◌, leb, List, [], ◌∷◌, ◌++◌, length, take, drop, Ok, Err, inl, inr, refl, sym, ap, subst, ◌∙◌, arith, true≢false, append-nil, append_assoc, length-take}
+use Rattle.std.proofs.Common.{◌≡◌, ◌⊎◌, ℕ, zero, suc, ◌+◌, ◌-◌, ◌^◌, ◌<◌, ◌≤◌, Bool, true, false, ◌&&◌, leb, List, [], ◌∷◌, ◌++◌, length, take, Ok, Err, inl, inr, refl, sym, ap, subst, ◌∙◌, arith, true≢false, append-nil, append_assoc}
 use Rattle.std.specs.Int.{w32}
 use Rattle.std.specs.List.{flat_map}
 use Rattle.std.proofs.lemmas.Bool.{le-leb}
-use Rattle.std.proofs.lemmas.List.{drop-take}
-use Rattle.std.proofs.Math.Seq.{take-append-add}
 use Rattle.byte_fields.specs.Field.{Reader, ◌>>=◌, digits, limited, each_at, passed}
-use Rattle.byte_fields.specs.Codec.{Stands}
 use Rattle.byte_fields.specs.Cuts.{start_of}
 use Rattle.byte_fields.specs.Broken.{IsRefused}
 use Rattle.byte_fields.proofs.Codec.{bind_err, never_err}
@@ -25,20 +22,6 @@ use Rattle.store_image.proofs.Appended.{entries_known}
 use Rattle.store_image.proofs.Cuts.{next_entry_cut}
 
 -- ---- a limit
-
--- a text that has room stands in the bytes up to there
-stands_within : (bytes : List ℕ) (at : ℕ) (text : List ℕ) (next room : ℕ) → Stands bytes at text next → length text ≤ room → Stands (take (at + room) bytes) at text next
-stands_within bytes at text next room stands le =
-    let left : ℕ = room - length text in
-    let all : room ≡ length text + left = omega arith in
-    let ends : at + room ≡ next + left = omega (arith, stands.next_is) in
-    let front = drop-take at room bytes ∙ ap (take room) stands.here ∙ ap (λ (n : ℕ). take n (text ++ drop next bytes)) all ∙ take-append-add text (drop next bytes) left in
-    let back = ap (λ (n : ℕ). drop next (take n bytes)) ends ∙ drop-take next left bytes in
-    record {
-      here = front ∙ ap (λ (rest : List ℕ). text ++ rest) (sym back);
-      next_is = stands.next_is;
-      within = omega (arith, length-take (at + room) bytes, stands.next_is, stands.within);
-    }
 
 -- what is refused among some items is refused among more
 more_items : {S A : Type 0} (item : S → Reader A) (after : S → A → S) (few many : ℕ) (state : S) (bytes : List ℕ) (at place : ℕ) → few ≤ many → each_at item after few state bytes at ≡ Err place → each_at item after many state bytes at ≡ Err place

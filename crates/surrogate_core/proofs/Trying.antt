@@ -1,5 +1,5 @@
 -- How an operation is tried, from what its parts did.
-use Rattle.std.proofs.Common.{◌≡◌, inl, inr, ℕ, Bool, true, List, [], ◌∷◌, ◌++◌, Option, Some, None, Result, Ok, Err, refl, sym, ap, ◌∙◌, subst, arith}
+use Rattle.std.proofs.Common.{◌≡◌, inl, inr, ℕ, Bool, List, [], ◌∷◌, ◌++◌, Option, Some, None, Result, Ok, Err, refl, sym, ap, ◌∙◌, subst, arith}
 use Rattle.std.specs.Prelude.{option_map}
 use Rattle.std.proofs.lemmas.List.{append-nil}
 use Rattle.outside.specs.Outside.{Told, raised, CountsFault}
@@ -171,24 +171,3 @@ snapshot_starved client sketched machine reply rows work step runner waits found
       does = starved_snapshot client sketched machine.copy reply rows work (record { step = step; after = machine }) found declines;
       told = subst (λ (s : NextStep). HasRun [] (failed_step s) runner runner) (sym step_is) (runs_none runner);
     }
-
--- a snapshot on which the operation is tried again
-pub tried_snapshot : (client : ℕ) (sketched : SketchEntry) (copy : Volume) (reply : Message) (rows : Volume) (work : List ℕ) (runs : List Run) (reaction : Reaction) → snapshot_rows reply ≡ Some rows
-    → Tries true rows client sketched work runs reaction → HandlesReply (Fetching client sketched) copy reply work runs reaction
-tried_snapshot client sketched copy (messages.Snapshot c n last seen) rows work runs reaction found tries =
-    inl (subst (λ (r : Volume). Tries true r client sketched work runs reaction) (ap (λ (o : Option Volume). some_of o rows) (sym found)) tries)
-  where
-    some_of : Option Volume → Volume → Volume
-    some_of (Some r) d = r
-    some_of None d = d
-tried_snapshot client sketched copy (messages.Store c n ps) rows work runs reaction found tries = absurd (cc)
-tried_snapshot client sketched copy (messages.Operate c e) rows work runs reaction found tries = absurd (cc)
-tried_snapshot client sketched copy (messages.Pull c n) rows work runs reaction found tries = absurd (cc)
-tried_snapshot client sketched copy (messages.Accepted c n u) rows work runs reaction found tries = absurd (cc)
-tried_snapshot client sketched copy (messages.Stale c n u p theirs ours) rows work runs reaction found tries = absurd (cc)
-tried_snapshot client sketched copy (messages.Unfit c n u i fault) rows work runs reaction found tries = absurd (cc)
-tried_snapshot client sketched copy (messages.Gap c n last) rows work runs reaction found tries = absurd (cc)
-tried_snapshot client sketched copy (messages.Done c n) rows work runs reaction found tries = absurd (cc)
-tried_snapshot client sketched copy (messages.Declined c n why) rows work runs reaction found tries = absurd (cc)
-tried_snapshot client sketched copy (messages.Full c n u i fault) rows work runs reaction found tries = absurd (cc)
-tried_snapshot client sketched copy (messages.Malformed code offset) rows work runs reaction found tries = absurd (cc)

@@ -115,18 +115,6 @@ module _ (request : Message) where
       → IsSentReply request frame reply v → IsSentReply request frame reply w
   stays made v w frame reply moved sent = (sent.0, sent.1, moved_packets (Is request) made v w reply moved.moves sent.2)
 
-  pub tried_none : (world : World) → HasTried request [] None world world
-  tried_none world = record {
-    made = [];
-    moved = moved_none request world;
-    answered = tt;
-    at = refl;
-    of_surrogates = tt;
-    of_request = tt;
-    passed = tt;
-    first_is = refl;
-  }
-
   module _ (tried : List (List ℕ)) (address : List ℕ) (first : Option (Vec ℕ Global)) (u v w : World) (so_far : HasTried request tried first u v) where
     abbrev one : Answer → Ask
     one answer = ask_of Surrogate address request answer
@@ -228,10 +216,6 @@ module _ (request : Message) (list : List ℕ) where
       passed = so_far.passed;
       ends = inl (refl, none);
     }
-
-    answers : (first : Option (Vec ℕ Global)) → is_answer_of (result_of first) ≡ true
-    answers None = refl
-    answers (Some frame) = refl
 
     first_pools : (first : Option (Vec ℕ Global)) (best : Answer) → IsFirst request first best v → IsPooled request (result_of first) best v
     first_pools None best is = is

@@ -1,5 +1,5 @@
 -- Connections that are served one after the other.
-use Rattle.std.proofs.Common.{◌≡◌, ◌≤◌, ◌<◌, ◌⊎◌, inl, inr, ℕ, ◌+◌, List, [], ◌∷◌, ◌++◌, refl, sym, ◌∙◌, ap, subst, append_assoc, arith}
+use Rattle.std.proofs.Common.{◌≡◌, ◌≤◌, ◌<◌, ◌⊎◌, inl, ℕ, ◌+◌, List, [], ◌∷◌, ◌++◌, refl, sym, ◌∙◌, ap, subst, append_assoc, arith}
 use Rattle.std.proofs.lemmas.List.{append-nil}
 use Rattle.std.specs.Prelude.{Result, Ok, Err, OnErr}
 use Rattle.std.specs.declared.alloc.AllocError.{AllocError}
@@ -7,12 +7,12 @@ use Rattle.outside.specs.Port.{PortTelling}
 use Rattle.port_serving.specs.declared.serving.Came.{Came}
 use Rattle.port_serving.specs.declared.serving.Came.TheVariants as came
 use Rattle.port_serving.specs.declared.serving.Tally.{Tally}
-use Rattle.port_serving.specs.Serving.{Connection, Missed, exchanges, frames_taken, connection_of, Uses, IsAtHand, Replies, tallied}
+use Rattle.port_serving.specs.Serving.{Connection, exchanges, frames_taken, connection_of, Uses, IsAtHand, tallied}
 use Rattle.port_serving.proofs.Connections as ports
 use Rattle.tree_values.specs.Tree.{Volume}
 use Rattle.cmd_capture.specs.declared.runner.Run.{Run}
 use Rattle.world_rules.specs.declared.asking.Ask.{Ask}
-use Rattle.surrogate_prog.specs.Serving.{Doings, did_nothing, and_then, ServesFrame, ServesFrames, Outside, Did}
+use Rattle.surrogate_prog.specs.Serving.{Doings, did_nothing, and_then, ServesFrames, Outside, Did}
 use Rattle.surrogate_prog.specs.Inside.{RepliesTo, BreaksReply, SurrogateServesNext, BreaksTaking, SurrogateServesAll, SurrogateServesFront}
 use Rattle.surrogate_prog.proofs.Doing.{nothing_done, did_more, unanswered}
 use Rattle.port_serving.proofs.Connections.{UsesSoFar}
@@ -30,9 +30,6 @@ same_doings a b runs failed asks =
 nothing_then : (did : Doings) → and_then did_nothing did ≡ did
 nothing_then did = same_doings (and_then did_nothing did) did refl (omega arith) refl
 
-then_nothing : (did : Doings) → and_then did did_nothing ≡ did
-then_nothing did = same_doings (and_then did did_nothing) did (append-nil did.runs) (omega arith) (append-nil did.asks)
-
 then_then : (a b c : Doings) → and_then (and_then a b) c ≡ and_then a (and_then b c)
 then_then a b c = same_doings (and_then (and_then a b) c) (and_then a (and_then b c)) (append_assoc a.runs b.runs c.runs) (omega arith) (append_assoc a.asks b.asks c.asks)
 
@@ -40,9 +37,6 @@ then_then a b c = same_doings (and_then (and_then a b) c) (and_then a (and_then 
 
 pub frames_none : (server work : List ℕ) (copy : Volume) → ServesFrames server work copy [] did_nothing copy
 frames_none server work copy = (refl, refl)
-
-pub frames_one : (server work : List ℕ) (copy after : Volume) (pair : List ℕ × List ℕ) (did : Doings) → ServesFrame server work copy pair did after → ServesFrames server work copy (pair ∷ []) did after
-frames_one server work copy after pair did one = (did, did_nothing, after, one, (refl, refl), sym (then_nothing did))
 
 frames_more : (server work : List ℕ) (xs ys : List (List ℕ × List ℕ)) (s t u : Volume) (first more : Doings) → ServesFrames server work s xs first t → ServesFrames server work t ys more u
     → ServesFrames server work s (xs ++ ys) (and_then first more) u
@@ -53,26 +47,6 @@ frames_more server work (x ∷ xs) ys s t u first more one two =
     (one.0, and_then one.1 more, one.2, one.3, frames_more server work xs ys one.2 t u one.1 more one.4 two, ap (λ (d : Doings). and_then d more) one.5 ∙ then_then one.0 one.1 more)
 
 -- ---- one connection
-
-pub next_none : (server work : List ℕ) (copy : Volume) (port used : PortTelling) (there : Outside) → used.left ≡ 0 → Uses [] port used → SurrogateServesNext server work came.NoConnection copy copy port used there there
-next_none server work copy port used there left uses =
-    record { bytes = []; reply = []; uses = uses; did = did_nothing; serves = frames_none server work copy; did_outside = nothing_done [] there; none = λ _. left }
-
-pub next_missed : (server work : List ℕ) (copy : Volume) (port used : PortTelling) (there : Outside) → Uses (Missed ∷ []) port used → SurrogateServesNext server work came.Missed copy copy port used there there
-next_missed server work copy port used there uses =
-    record { bytes = []; reply = []; uses = uses; did = did_nothing; serves = frames_none server work copy; did_outside = nothing_done [] there; none = λ is. absurd (cc is) }
-
-pub next_replied : (server work bytes reply : List ℕ) (how : Came) (s t : Volume) (port used : PortTelling) (a b : Outside) → RepliesTo server work bytes reply s t a b → Replies how bytes reply port used
-    → SurrogateServesNext server work how s t port used a b
-next_replied server work bytes reply how s t port used a b replied answered = by how answered.is answered.uses
-  where
-    by : (how : Came) → (how ≡ came.Unanswered) ⊎ (how ≡ came.Answered) → Uses (connection_of how bytes reply) port used → SurrogateServesNext server work how s t port used a b
-    by came.NoConnection (inl is) uses = absurd (cc is)
-    by came.NoConnection (inr is) uses = absurd (cc is)
-    by came.Missed (inl is) uses = absurd (cc is)
-    by came.Missed (inr is) uses = absurd (cc is)
-    by came.Unanswered is uses = record { bytes = bytes; reply = reply; uses = uses; did = replied.did; serves = frames_one server work s t (bytes, reply) replied.did replied.serves; did_outside = replied.did_outside; none = λ no. absurd (cc no) }
-    by came.Answered is uses = record { bytes = bytes; reply = reply; uses = uses; did = replied.did; serves = frames_one server work s t (bytes, reply) replied.did replied.serves; did_outside = replied.did_outside; none = λ no. absurd (cc no) }
 
 -- memory ran out before the frame was taken
 pub breaks_take : (server work : List ℕ) (copy : Volume) (port used : PortTelling) (there : Outside) → IsAtHand [] port used → BreaksTaking server work copy port used there there

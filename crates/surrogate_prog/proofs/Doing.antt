@@ -92,9 +92,6 @@ did_more xs ys first more a b c one two = record {
       answers_append first.asks more.asks z (answers_stay first.asks y z (λ message. moved_packets (AnyAsks ys) more.asks y z message after.0) before.1) after.1,
     )
 
-pub did_no_more : (xs : List (List ℕ)) (did : Doings) (a b : Outside) → Did xs did a b → Did (xs ++ []) did a b
-did_no_more xs did a b one = subst (λ (frames : List (List ℕ)). Did frames did a b) (sym (append-nil xs)) one
-
 -- ---- one message
 
 -- what a handling did of a message that these bytes spell

@@ -1,6 +1,5 @@
 mod Doing
 mod Connections
-mod Running
 mod Totals
 mod Alone
 mod Silent

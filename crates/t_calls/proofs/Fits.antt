@@ -1,5 +1,5 @@
 -- What is taken from bytes can be spelled.
-use Rattle.std.proofs.Common.{◌≡◌, ℕ, ◌^◌, ◌<◌, ◌≤◌, List, length, Result, Ok, Err, IfOk, arith}
+use Rattle.std.proofs.Common.{◌≡◌, ℕ, ◌^◌, ◌<◌, ◌≤◌, List, Result, Ok, Err, IfOk, arith}
 use Rattle.byte_fields.specs.Codec.{IsBytes}
 use Rattle.byte_fields.specs.Field.{Gives}
 use Rattle.byte_fields.specs.declared.error.TakeError.{TakeError}

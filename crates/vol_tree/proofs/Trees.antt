@@ -269,10 +269,6 @@ can_move rows p q h =
       room = not_when (has_no_room rows q) _ none.1.1.1.1.1.0;
     }
 
--- the rows between the two changes of a move
-pub given : List Row → List (List ℕ) → List (List ℕ) → List Row
-given rows p q = touched rows q (node_at rows p)
-
 free_is_no_folder : (rows : List Row) (q : List (List ℕ)) → is_root q ≡ false → is_some (node_at rows q) ≡ false → is_folder rows q ≡ false
 free_is_no_folder rows q root free = rw root (by (node_at rows q) free)
   where

@@ -13,9 +13,6 @@ use Rattle.file_paths.proofs.Order.{is_less, same_place, tied_path}
 use Rattle.cmd_capture.specs.declared.job.JobRow.{JobRow}
 use Rattle.cmd_capture.specs.Rows.{is_job_row_at, node_in, is_folder_in, JobRowsAreInOrder, IsJobRow, AreJobRows, may_follow_rows}
 
-pub no_rows : AreJobRows []
-no_rows = record { in_order = tt; each = tt; in_folders = λ path some. absurd (true≢false (sym some)) }
-
 pub all_push : {X : Type 0} (P : X → Type 0) (xs : List X) (x : X) → AllByRecursion P xs → P x → AllByRecursion P (xs ++ x ∷ [])
 all_push P [] x all one = (one, tt)
 all_push P (y ∷ ys) x all one = (all.0, all_push P ys x all.1 one)

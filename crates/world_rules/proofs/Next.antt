@@ -110,13 +110,6 @@ next_pending log last number effects base log_is low next is =
     let place : found.0 ≡ last - log.acked = omega (arith, found.3, is.2, next, low) in
     (is.0, record { rest = found.1; is = ap (λ k. drop k log.pending) (sym place) ∙ found.2 }, is.3, is.4)
 
--- the number of a pending entry is above the acknowledged one, and not above the last
-pub pending_within : (log : Log) (number : ℕ) (effects : List Effect) (base : List Base) → IsLog log → IsPendingAt log number effects base → (log.acked < number) × (number ≤ log.acked + length log.pending)
-pending_within log number effects base log_is is =
-    let found = found_at (log.acked + 1) log.base log.pending is.0 log_is.entries is.1 in
-    let within = drop_within found.0 log.pending is.0 found.1 found.2 in
-    (omega (arith, found.3, is.2), omega (arith, found.3, is.2, within))
-
 -- an entry behind the first ones is left without them
 pub left_behind : (j number : ℕ) (volume : Volume) (entries : List Entry) (entry : Entry) → AreEntriesOf number volume entries → IsIn entry entries → number + j ≤ entry.seq → IsIn entry (drop j entries)
 left_behind zero number volume entries entry are among low = among

@@ -232,9 +232,6 @@ with_last-own last client number = ap (λ b. if b then number else last client) 
 
 -- ---- the answers
 
-gap : (last number : ℕ) → nat_lt (last + 1) number ≡ true → nat_le (last + 2) number ≡ true
-gap last number e = grind (arith, nat_tests)
-
 module _ (client number end : ℕ) (client_fits : (nat_le 1 client && nat_le client 64) ≡ true) (number_fits : nat_le 1 number ≡ true) (number_small : number < 2 ^ 64) (end_small : end < 2 ^ 64) (behind : number ≤ end) where
   pub refusal-valid : (upto index : ℕ) (fault : TreeError) → upto < 2 ^ 64 → number ≤ upto + 1 → index < 2 ^ 32 → IsTold fault → IsValid (refusal client number upto index fault)
   refusal-valid upto index fault small low index_fits told = ⊎_elim

@@ -1,15 +1,12 @@
 -- What a client may send is valid.
-use Rattle.std.proofs.Common.{◌≡◌, inl, inr, ℕ, ◌+◌, ◌≤◌, true, List, [], ◌∷◌, ◌++◌, length, map, refl, sym, ap, ◌∙◌, subst, arith, length-append}
+use Rattle.std.proofs.Common.{◌≡◌, inl, inr, ℕ, ◌+◌, ◌≤◌, true, List, [], ◌∷◌, ◌++◌, length, refl, sym, ap, ◌∙◌, subst, arith, length-append}
 use Rattle.std.specs.Prelude.{Bool, nat_le, ◌&&◌}
 use Rattle.std.specs.List.{AllByRecursion}
 use Rattle.std.proofs.lemmas.Bool.Decides.{nat_tests}
-use Rattle.file_paths.specs.Path.{FilePath, IsPath}
 use Rattle.tree_values.specs.Effects.{touched_all, distinct, changed_all}
-use Rattle.tree_values.specs.Tree.{Volume, version_at, IsTree, IsLegalEffect, touched_paths}
+use Rattle.tree_values.specs.Tree.{Volume, IsTree}
 use Rattle.tree_values.specs.Lists.{IsIn}
-use Rattle.tree_values.specs.Spelling.{BaseFits, AreBasesOf}
-use Rattle.tree_values.specs.declared.node.Effect.{Effect}
-use Rattle.tree_values.specs.declared.node.Base.{Base}
+use Rattle.tree_values.specs.Spelling.{AreBasesOf}
 use Rattle.vol_tree.proofs.Behind.{IsIn-left, applied_all-tree}
 use Rattle.std.proofs.lemmas.List.{length-map}
 use Rattle.mod_log.specs.declared.log.Entry.{Entry}
@@ -27,27 +24,8 @@ use Rattle.wire_frames.specs.Parts.{part_of, PartFits, count_rule, PartsFit}
 use Rattle.wire_frames.proofs.PartLaws.{one_fits}
 use Rattle.wire_frames.proofs.Standing.{one_counted, sketched_stores}
 use Rattle.world_rules.specs.InStep.{MaySend, ArePendingFrom, parts_of, IsStorable}
-use Rattle.mod_log.proofs.BasesFit.{version-small, all_paths, touched-legal}
 use Rattle.mod_log.proofs.EntriesFit.{base_of-is}
 use Rattle.mod_log.proofs.Entries.{legal_each}
-
--- ---- the base list of legal effects
-
-touched_all-legal : (effects : List Effect) → AllByRecursion IsLegalEffect effects → AllByRecursion IsPath (touched_all effects)
-touched_all-legal [] legal = tt
-touched_all-legal (effect ∷ effects) legal = all_paths (touched_paths effect) (touched_all effects) (touched-legal effect legal.0) (touched_all-legal effects legal.1)
-
--- the versions of these paths
-abbrev bases_at : List FilePath → Volume → List Base
-bases_at paths rows = map (λ path. record { path = path; version = version_at rows path }) paths
-
-paths_of_bases : (paths : List FilePath) (rows : Volume) → map (λ base. base.path) (bases_at paths rows) ≡ paths
-paths_of_bases [] rows = refl
-paths_of_bases (path ∷ paths) rows = ap (λ rest. path ∷ rest) (paths_of_bases paths rows)
-
-bases_fit : (paths : List FilePath) (rows : Volume) → IsTree rows → AllByRecursion IsPath paths → AllByRecursion BaseFits (bases_at paths rows)
-bases_fit [] rows tree all = tt
-bases_fit (path ∷ paths) rows tree all = ((all.0, version-small rows path tree), bases_fit paths rows tree all.1)
 
 -- ---- the messages
 

@@ -28,13 +28,13 @@ never_ahead a b same ahead = absurd (omega (arith, ahead.1, ap (λ (v : Volume).
 
 -- ---- what refuses
 
-refusal_client : (client number : ℕ) (message : Message) → IsRefusal client number message → client_of message ≡ client
+pub refusal_client : (client number : ℕ) (message : Message) → IsRefusal client number message → client_of message ≡ client
 refusal_client client number (Stale of stored upto path theirs ours) is = is.0
 refusal_client client number (Unfit of stored upto index fault) is = is.0
 refusal_client client number (Full of stored upto index fault) is = is.0
 refusal_client client number _ is = absurd is
 
-sent_refuses_none : (client : ℕ) (ships : Bool) (log : Log) (number : ℕ) (message : Message) → MaySend client ships log message → IsRefusal client number message → ⊥
+pub sent_refuses_none : (client : ℕ) (ships : Bool) (log : Log) (number : ℕ) (message : Message) → MaySend client ships log message → IsRefusal client number message → ⊥
 sent_refuses_none client ships log number (Store of stored parts) may is = is
 sent_refuses_none client ships log number (Operate of sketched) may is = is
 sent_refuses_none client ships log number (Pull of known) may is = is
@@ -53,7 +53,7 @@ refused_before client log world now same number message is among = by (nat_le nu
 
 -- ---- a refusal that the server gives is of the entry behind those that it has taken
 
-refuses_next : (client number of stored end last : ℕ) (judgement : StoreVerdict) → IsRefusal client number (reply of stored end last judgement) → (of ≡ client) × (last + 1 ≡ number)
+pub refuses_next : (client number of stored end last : ℕ) (judgement : StoreVerdict) → IsRefusal client number (reply of stored end last judgement) → (of ≡ client) × (last + 1 ≡ number)
 refuses_next client number of stored end last Repeated is = absurd is
 refuses_next client number of stored end last Early is = absurd is
 refuses_next client number of stored end last (Outdated conflict) is = is

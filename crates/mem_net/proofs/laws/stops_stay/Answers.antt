@@ -1,4 +1,4 @@
-use Rattle.std.proofs.Common.{◌≡◌, ◌≢◌, inl, inr, ℕ, zero, suc, true, false, List, [], ◌∷◌, Vec, Result, Ok, Err, refl, sym, ◌∙◌, ap, subst}
+use Rattle.std.proofs.Common.{◌≡◌, ◌≢◌, inl, inr, ℕ, zero, suc, true, List, [], ◌∷◌, Vec, Result, Ok, Err, refl, sym, ◌∙◌, ap, subst}
 use Rattle.std.specs.declared.alloc.Global.{Global}
 use Rattle.wire_frames.specs.declared.message.Message.{Message}
 use Rattle.world_rules.specs.declared.asking.Peer.{Peer}
@@ -9,7 +9,7 @@ use Rattle.world_rules.specs.declared.link.LinkError.TheVariants.{Failed as Link
 use Rattle.world_rules.specs.World.{World, sent}
 use Rattle.mem_wires.specs.declared.fate.Fate.{Fate}
 use Rattle.mem_wires.specs.declared.fate.Fate.TheVariants.{Pass, LoseRequest, LoseReply, Twice, Old, Late, Inject, Stop}
-use Rattle.mem_wires.specs.Fates.{decides, is_stopped, answered, one_more}
+use Rattle.mem_wires.specs.Fates.{is_stopped, answered, one_more}
 use Rattle.mem_net.specs.Scenes.{Scene, with_world, with_fates, with_troubles, FrontDecides, Reaches, IsReached, MeetsAlone, IsDecided, IsMet}
 use Rattle.mem_net.proofs.laws.stops_stay.Goals as goal
 
