@@ -450,25 +450,6 @@ piece_writes journal notes found piece is found_is name number log r i j told =
     (told_as i j (λ old new. Appends name (client_records p.0) r old new) (WritesNext name number log (Some p.0) r)
     (subst (λ (text : List ℕ). Told i j (λ old new. Appends name text r old new)) p.2 told) (λ x y put. put))
 
-module _ (j : Journal) (rose : Bool) (log : Log) where
-  -- an entry that was not kept is acknowledged
-  pub stale_piece : j.last < log.acked → IsPiece (Some j) (next_notes (Some j) rose log) None
-  stale_piece stale =
-      subst (λ (may : Bool). IsPiece (Some j) (if may && nat_le (bytes_with j (notes_since j rose log)) MAX_RECORDS then Some (notes_since j rose log) else None) None) (sym (lt-leb log.acked j.last stale)) tt
-
-  -- the records have too many bytes
-  pub long_piece : log.acked ≤ j.last → MAX_RECORDS < bytes_with j (notes_since j rose log) → IsPiece (Some j) (next_notes (Some j) rose log) None
-  long_piece fresh long =
-      subst (λ (may : Bool). IsPiece (Some j) (if may then Some (notes_since j rose log) else None) None)
-      (sym (ap (λ (a : Bool). a && nat_le (bytes_with j (notes_since j rose log)) MAX_RECORDS) (le-leb log.acked j.last fresh) ∙ lt-leb (bytes_with j (notes_since j rose log)) MAX_RECORDS long)) tt
-
-  -- they have not
-  pub short_piece : (piece : Piece) → log.acked ≤ j.last → piece.records.items ≡ client_records (notes_since j rose log) → piece.bytes ≡ bytes_with j (notes_since j rose log) → bytes_with j (notes_since j rose log) ≤ MAX_RECORDS
-      → IsPiece (Some j) (next_notes (Some j) rose log) (Some piece)
-  short_piece piece fresh is bytes short =
-      subst (λ (may : Bool). IsPiece (Some j) (if may then Some (notes_since j rose log) else None) (Some piece))
-      (sym (ap (λ (a : Bool). a && nat_le (bytes_with j (notes_since j rose log)) MAX_RECORDS) (le-leb log.acked j.last fresh) ∙ le-leb (bytes_with j (notes_since j rose log)) MAX_RECORDS short)) (is, bytes)
-
 -- ---- the records of entries
 
 drop_none : {X : Type 0} (n : ℕ) → drop {A = X} n [] ≡ []
