@@ -1,2 +1,3 @@
 mod Alike
 mod Joined
+mod Fronts

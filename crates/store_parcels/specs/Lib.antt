@@ -1,2 +1,4 @@
 pub mod Front
 pub mod Opening
+pub mod Packing
+pub mod Laws

@@ -1,6 +1,6 @@
 //! What stands before the steps of a parcel.
 
-ghost use Rattle.std.specs.Prelude.{◌≡◌, ◌≤◌, IfOk, length, take};
+ghost use Rattle.std.specs.Prelude.{◌≡◌, ◌≤◌, IfOk, IfSome, length, take};
 ghost use Rattle.std.specs.Int.{w64, from_be_bytes};
 ghost use Rattle.byte_fields.specs.Field.{Gives};
 ghost use Rattle.wire_frames.specs.Reading.{is_sized};
@@ -13,10 +13,10 @@ use vol_tree::{Path, Paths};
 use wire_frames::MAX_FRAME;
 
 /// The version of frames.
-const FRAME_VERSION: u8 = 3;
+pub(crate) const FRAME_VERSION: u8 = 3;
 
 /// The byte that tells the kind of a parcel; no message has it.
-const PARCEL_KIND: u8 = 5;
+pub(crate) const PARCEL_KIND: u8 = 5;
 
 /// Where the store ends that a parcel names.
 const BEHIND_STORE: usize = 16;
@@ -62,7 +62,8 @@ impl Item<Source> for Path {
 
 /// The store that a parcel stands for; `None` where the bytes are no parcel, or end before it. It takes no memory.
 pub fn named_store(bytes: &[u8]) -> Option<NamedStore>
-    ensures { result ≡ named_store bytes.now }
+    ensures exact { result ≡ named_store bytes.now }
+    ensures long { IfSome result (λ store. 16 ≤ length bytes.now) }
 {
     if !is_parcel(bytes) {
         return None;
@@ -77,7 +78,8 @@ pub fn named_store(bytes: &[u8]) -> Option<NamedStore>
 
 /// The front of a parcel, and where its steps begin; `None` where the bytes are no parcel, or a field is faulty.
 pub(crate) fn front_of(alloc: Global, bytes: &[u8]) -> Result<Option<(Front, usize)>, AllocError>
-    ensures { IfOk result (λ found. found ≡ front_of bytes.now) }
+    ensures exact { IfOk result (λ found. found ≡ front_of bytes.now) }
+    ensures within { IfOk result (λ found. IfSome found (λ x. x.1 ≤ length bytes.now)) }
 {
     let Some(store) = named_store(bytes) else {
         return Ok(None);
@@ -134,7 +136,8 @@ fn front_at(
     at: usize,
     store: NamedStore,
 ) -> Result<(Front, usize), TakeError>
-    ensures { Gives result (front_at store bytes.now at) }
+    ensures read { Gives result (front_at store bytes.now at) }
+    ensures within { IfOk result (λ x. x.1 ≤ length bytes.now) }
 {
     let (span, paths_at) = span_at(bytes, at, 32)?;
     let mut print = [0; 32];

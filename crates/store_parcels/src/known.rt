@@ -43,3 +43,11 @@ fn file_at<'a>(tree: &'a Tree, path: &Path) -> Option<&'a Content>
         Some(Node::Folder) | None => None,
     }
 }
+
+/// The number of bytes of the file at a path; 0 where there is none.
+pub(crate) fn size_at(tree: &Tree, path: &Path) -> usize {
+    match file_at(tree, path) {
+        Some(content) => content.bytes().len(),
+        None => 0,
+    }
+}

@@ -1,9 +1,9 @@
 //! Opening a parcel.
 
-ghost use Rattle.std.specs.Prelude.{◌≡◌, ◌≤◌, length, IfOk};
+ghost use Rattle.std.specs.Prelude.{◌≡◌, ◌≤◌, ◌<◌, ◌^◌, length, IfOk};
 ghost use Rattle.std.specs.Option.{option_map};
 ghost use Rattle.tree_values.specs.Limits.{max_files};
-ghost use Rattle.store_parcels.specs.Opening.{is_frame_of, is_head_of, made_of, opened};
+ghost use Rattle.store_parcels.specs.Opening.{is_frame_of, is_head_of, made_of, opened, opened_behind};
 
 use crate::front::{Front, NamedStore, front_of};
 use crate::known::known_in;
@@ -27,10 +27,22 @@ pub fn opened(alloc: Global, tree: &Tree, bytes: &[u8]) -> Result<Option<Vec<u8>
     let Some((front, start)) = front_of(alloc, bytes)? else {
         return Ok(None);
     };
+    opened_behind(alloc, tree, &front, &bytes[start..])
+}
+
+/// What the bytes behind a front open to.
+fn opened_behind(
+    alloc: Global,
+    tree: &Tree,
+    front: &Front,
+    bytes: &[u8],
+) -> Result<Option<Vec<u8>>, AllocError>
+    ensures { IfOk result (λ found. option_map (λ frame. frame.items) found ≡ opened_behind tree.now front.now bytes.now) }
+{
     let Some(known) = known_in(alloc, tree, front.sources.as_slice())? else {
         return Ok(None);
     };
-    let Some(frame) = made_of(alloc, known.as_slice(), &bytes[start..])? else {
+    let Some(frame) = made_of(alloc, known.as_slice(), bytes)? else {
         return Ok(None);
     };
     if !front.names(frame.as_slice()) {
@@ -68,8 +80,21 @@ impl Front {
 }
 
 impl NamedStore {
+    /// States what the types of the fields say. It takes no time.
+    pub(crate) fn is_in_range(self)
+        ensures client { self.client < 2 ^ 8 }
+        ensures number { self.number < 2 ^ 64 }
+        ensures entries { self.entries < 2 ^ 8 }
+    {
+        let NamedStore {
+            client: _client,
+            number: _number,
+            entries: _entries,
+        } = self;
+    }
+
     /// Whether a head is that of the store.
-    fn is_told_by(self, head: Option<Head>) -> bool
+    pub(crate) fn is_told_by(self, head: Option<Head>) -> bool
         ensures { result ≡ is_head_of self head }
     {
         match head {
