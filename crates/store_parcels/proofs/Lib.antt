@@ -1,3 +1,6 @@
 mod Alike
 mod Joined
 mod Fronts
+mod Sounds
+mod Opens
+mod Used
