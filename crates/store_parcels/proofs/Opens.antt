@@ -3,6 +3,7 @@ use Rattle.std.proofs.Common.{◌≡◌, ℕ, ◌+◌, ◌-◌, ◌^◌, ◌<◌
 use Rattle.std.specs.Prelude.{Option, Some, slice_get}
 use Rattle.std.specs.Int.{w32, w64, from_be_bytes}
 use Rattle.std.specs.List.{AllByRecursion, All}
+use Rattle.std.specs.Option.{option_map, option_and_then}
 use Rattle.std.specs.Str.{bytes_eq}
 use Rattle.std.proofs.lemmas.List.{take_at, drop_at, drop-drop}
 use Rattle.std.proofs.lemmas.Nat.{from_be_bytes-to_be_bytes_4, from_be_bytes-to_be_bytes_8}
@@ -18,7 +19,7 @@ use Rattle.tree_values.specs.Tree.{Volume}
 use Rattle.wire_frames.specs.Limits.{max_frame}
 use Rattle.wire_frames.specs.Head.{head_at}
 use Rattle.wire_frames.specs.Reading.{is_sized}
-use Rattle.wire_frames.proofs.Frames.{are_sized}
+use Rattle.wire_frames.proofs.Frames.{IsSized, are_sized}
 use Rattle.delta_pieces.specs.declared.pieces.Step.{Step}
 use Rattle.delta_pieces.specs.declared.pieces.Pieces.{Pieces}
 use Rattle.delta_pieces.specs.Making.{expanded, at_start, StandFor, HasCount}
@@ -28,7 +29,7 @@ use Rattle.step_spelling.specs.Laws.{StepsAreRead, FoundStepsHaveASpelling}
 use Rattle.store_parcels.specs.declared.front.NamedStore.{NamedStore}
 use Rattle.store_parcels.specs.declared.front.Front.{Front}
 use Rattle.store_parcels.specs.Front.{is_parcel, sources, front, named_store, front_at, front_of}
-use Rattle.store_parcels.specs.Opening.{file_at, joined, known_in, made_of, is_head_of, is_frame_of, opened}
+use Rattle.store_parcels.specs.Opening.{file_at, joined, known_in, made_of, is_head_of, is_frame_of, opened_behind, opened, few as few_of}
 use Rattle.store_parcels.specs.Packing.{payload, parcel, HasFilesOf, OpensTo}
 use Rattle.store_parcels.proofs.Fronts.{SourcesFit, front_is_read}
 
@@ -51,6 +52,9 @@ eight_again n small = from_be_bytes-to_be_bytes_8 n small
 named_by : (bytes : List ℕ) (s : NamedStore) → is_parcel bytes ≡ true → slice_get bytes 15 ≡ Some s.entries → get_or bytes 6 0 ≡ s.client
     → take 8 (drop 7 bytes) ≡ digits w64 s.number → s.number < 2 ^ 64 → named_store bytes ≡ Some s
 named_by bytes s is entries client number small = rw (is, entries, client, number, eight_again s.number small) refl
+
+parcel_by : (bytes : List ℕ) → is_sized bytes ≡ true → get_or bytes 4 0 ≡ 3 → get_or bytes 5 0 ≡ 5 → is_parcel bytes ≡ true
+parcel_by bytes sized version kind = rw (sized, version, kind) refl
 
 parcel_length : (f : Front) (known : ℕ) (steps : List Step) (fresh : List ℕ)
     → length (parcel f known steps fresh) ≡ 4 + length (payload f known steps fresh)
@@ -96,9 +100,8 @@ is_a_parcel f known steps fresh small =
     let size : length bytes ≡ 4 + length p = parcel_length f known steps fresh in
     let front : take 4 bytes ≡ digits w32 (length p) = take_at (digits w32 (length p)) p 4 (four_bytes (length p)) in
     let told : from_be_bytes w32 (take 4 bytes) ≡ length p = ap (from_be_bytes w32) front ∙ four_again (length p) (omega (arith, size, small)) in
-    let sized : is_sized bytes ≡ true =
-    are_sized bytes (record { low = omega (arith, long_enough f known steps fresh); high = small; told = omega (arith, told, size) }) in
-    rw (sized, version_is f known steps fresh, kind_is f known steps fresh) refl
+    let are : IsSized bytes = record { low = omega (arith, long_enough f known steps fresh); high = small; told = omega (arith, told, size) } in
+    parcel_by bytes (are_sized bytes are) (version_is f known steps fresh) (kind_is f known steps fresh)
 
 -- ---- the front
 
@@ -122,6 +125,21 @@ behind bytes text tail long e =
 
 -- ---- a parcel opens
 
+front_from : (bytes : List ℕ) (store : NamedStore) (f : Front) (next : ℕ) → named_store bytes ≡ Some store → front_at store bytes 16 ≡ Ok (f, next)
+    → front_of bytes ≡ Some (f, next)
+front_from bytes store f next named read = rw (named, read) refl
+
+made_from : (known rest plain : List ℕ) (steps : List Step) (fresh : List ℕ) → steps_read (length known) rest ≡ Some (steps, fresh)
+    → expanded (length known + max_frame) 0 steps (at_start known fresh) ≡ Ok (known ++ plain) → made_of known rest ≡ Some plain
+made_from known rest plain steps fresh read makes = rw (read, makes) (ap Some (drop_at known plain (length known) refl))
+
+opened_from : (volume : Volume) (bytes rest known plain : List ℕ) (f : Front) (next : ℕ) → front_of bytes ≡ Some (f, next) → drop next bytes ≡ rest
+    → known_in volume f.sources ≡ Some known → made_of known rest ≡ Some plain → is_frame_of f plain ≡ true → opened volume bytes ≡ Some plain
+opened_from volume bytes rest known plain f next read left known_is makes is =
+    let behind : opened_behind volume f rest ≡ Some plain = rw (known_is, makes, is) refl in
+    let there : opened volume bytes ≡ opened_behind volume f (drop next bytes) = ap (option_and_then (λ x. opened_behind volume x.0 (drop x.1 bytes))) read in
+    there ∙ (ap (opened_behind volume f) left ∙ behind)
+
 pub parcel_opens : StepsAreRead → (volume : Volume) (f : Front) (known plain : List ℕ) (pieces : Pieces) → StoreFits f.store → length f.print ≡ 32
     → SourcesFit f.sources → known_in volume f.sources ≡ Some known → HaveSpelling (length known) pieces.steps.items → StandFor known plain pieces
     → length plain ≤ max_frame → is_frame_of f plain ≡ true
@@ -139,18 +157,21 @@ parcel_opens steps_are_read volume f known plain pieces store_fits print_long so
     behind bytes text (steps_spelled (length known) steps ++ fresh) (long_enough f (length known) steps fresh) (behind_store f (length known) steps fresh) in
     let read : front_at f.store bytes 16 ≡ Ok (f, 16 + length text) =
     front_is_read f.store bytes 16 f.print f.sources (16 + length text) b.stands print_long sources_fit in
-    let fronted : front_of bytes ≡ Some (f, 16 + length text) = rw (named, read) refl in
+    let fronted : front_of bytes ≡ Some (f, 16 + length text) = front_from bytes f.store f (16 + length text) named read in
     let stepped : steps_read (length known) (steps_spelled (length known) steps ++ fresh) ≡ Some (steps, fresh) =
     steps_are_read (length known) steps fresh spelled in
     let made : expanded (length known + max_frame) 0 steps (at_start known fresh) ≡ Ok (known ++ plain) = stand max_frame few in
-    let alone : drop (length known) (known ++ plain) ≡ plain = drop_at known plain (length known) refl in
-    rw (fronted, b.left, known_is, stepped, made, alone, is) refl
+    let makes : made_of known (steps_spelled (length known) steps ++ fresh) ≡ Some plain =
+    made_from known (steps_spelled (length known) steps ++ fresh) plain steps fresh stepped made in
+    opened_from volume bytes (steps_spelled (length known) steps ++ fresh) known plain f (16 + length text) fronted b.left known_is makes is
 
 -- ---- over volumes with the same files
 
 joined_alike : (volume other : Volume) (paths : List FilePath) → HasFilesOf volume paths other → joined other paths ≡ joined volume paths
 joined_alike volume other [] alike = refl
-joined_alike volume other (path ∷ paths) alike = rw (alike.0, joined_alike volume other paths alike.1) refl
+joined_alike volume other (path ∷ paths) alike =
+    ap (λ (o : Option (List ℕ)). option_and_then (λ content. option_map (λ others. content ++ others) (joined other paths)) o) alike.0
+    ∙ ap (λ (o : Option (List ℕ)). option_and_then (λ content. option_map (λ others. content ++ others) o) (file_at volume path)) (joined_alike volume other paths alike.1)
 
 -- the length is set
 length_is_set : (p old new : List ℕ) → old ≡ digits w32 0 ++ p → new ≡ digits w32 (length old - 4) ++ drop 4 old → new ≡ digits w32 (length p) ++ p
@@ -171,7 +192,7 @@ packed_opens steps_are_read have_spelling volume store paths known plain old new
     let p : List ℕ = payload f (length known) steps fresh in
     let new_is : new ≡ parcel f (length known) steps fresh = length_is_set p old new begun set in
     let spelled : HaveSpelling (length known) steps = have_spelling known plain pieces (omega arith) stand counts in
-    let there : known_in other paths ≡ Some known = rw (joined_alike volume other paths alike) known_is in
+    let there : known_in other paths ≡ Some known = ap (option_and_then few_of) (joined_alike volume other paths alike) ∙ known_is in
     let printed : bytes_eq (sha256 plain) (sha256 plain) ≡ true = (bytes_eq-Decides (sha256 plain) (sha256 plain)).1 refl in
     let is : is_frame_of f plain ≡ true = and_holds (bytes_eq (sha256 plain) (sha256 plain)) (is_head_of store (head_at plain)) printed told in
     let within : length (parcel f (length known) steps fresh) ≤ max_frame =

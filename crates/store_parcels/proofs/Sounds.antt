@@ -33,6 +33,9 @@ and_then_some : {A B : Type 0} (o : Option A) (f : A → Option B) (y : B) → o
 and_then_some None f y e = absurd cc
 and_then_some (Some x) f y e = (x, refl, e)
 
+some_is : {A : Type 0} (x y : A) → Some x ≡ Some y → x ≡ y
+some_is x y e = cc
+
 result_some : {A E : Type 0} (r : Result A E) (x : A) → result_ok r ≡ Some x → r ≡ Ok x
 result_some (Ok y) x e = let same : y ≡ x = cc in ap Ok same
 result_some (Err y) x e = absurd cc
@@ -59,7 +62,7 @@ kind_is_store Malformed e = absurd cc
 
 same_head : (head : Head) (named : NamedStore) → head.kind ≡ Store → head.client ≡ named.client → head.number ≡ named.number → head.entries ≡ named.entries
     → head ≡ head_named named
-same_head head named k c n e = cc
+same_head head named k c n e = rw (← k, ← c, ← n, ← e) refl
 
 head_is : (named : NamedStore) (head : Option Head) → is_head_of named head ≡ true → head ≡ Some (head_named named)
 head_is named None e = absurd cc
@@ -121,7 +124,7 @@ prints_are_one volume other bytes opens others e e' =
     let o = opens_by volume bytes opens e in
     let p = opens_by other bytes others e' in
     let same : Some (o.front, o.next) ≡ Some (p.front, p.next) = sym o.read ∙ p.read in
-    let print : o.front.print ≡ p.front.print = cc in
+    let print : o.front.print ≡ p.front.print = ap (λ (x : Front × ℕ). x.0.print) (some_is (o.front, o.next) (p.front, p.next) same) in
     print_is o.front opens o.is ∙ print ∙ sym (print_is p.front others p.is)
 
 pub parcels_have_no_kind : ParcelsHaveNoKind
@@ -135,9 +138,12 @@ parcels_have_no_kind bytes is =
 not_refused : {A E : Type 0} (r : Result A E) (x : A) (e : E) → r ≡ Ok x → r ≡ Err e → ⊥
 not_refused r x e p q = absurd cc
 
+closed : (volume : Volume) (bytes : List ℕ) → is_parcel bytes ≡ false → opened volume bytes ≡ None
+closed volume bytes is = rw is refl
+
 pub frames_stay : FramesStay
 frames_stay volume message valid = by (is_parcel (frame message)) refl
   where
     by : (test : Bool) → is_parcel (frame message) ≡ test → opened volume (frame message) ≡ None
     by true is = absurd (not_refused (frame_of (frame message)) message BadKind (frame_again message valid) (parcels_have_no_kind (frame message) is))
-    by false is = rw is refl
+    by false is = closed volume (frame message) is

@@ -10,7 +10,7 @@ ghost use Rattle.tree_values.specs.Tree.{Volume};
 ghost use Rattle.wire_frames.specs.Head.{head_at};
 ghost use Rattle.wire_frames.specs.Limits.{max_frame};
 ghost use Rattle.step_spelling.specs.Spelling.{HaveSpelling};
-ghost use Rattle.store_parcels.specs.Front.{front, sources};
+ghost use Rattle.store_parcels.specs.Front.{front};
 ghost use Rattle.store_parcels.specs.Opening.{is_head_of};
 ghost use Rattle.store_parcels.specs.Packing.{payload, HasFilesOf, OpensTo};
 

@@ -4,4 +4,6 @@
 #[cfg(test)]
 mod contents;
 #[cfg(test)]
+mod parcels;
+#[cfg(test)]
 mod spellings;
