@@ -1,15 +1,18 @@
 -- What stands before the steps is read as it is spelled.
-use Rattle.std.proofs.Common.{◌≡◌, ℕ, ◌+◌, ◌^◌, ◌<◌, ◌≤◌, List, [], ◌∷◌, ◌++◌, length, Ok, refl}
+use Rattle.std.proofs.Common.{◌≡◌, ℕ, ◌+◌, ◌^◌, ◌<◌, ◌≤◌, List, [], ◌∷◌, ◌++◌, length, Ok, refl, arith}
+use Rattle.std.specs.Prelude.{nat_le}
 use Rattle.std.specs.List.{flat_map, AllByRecursion}
 use Rattle.byte_fields.specs.Field.{EachFits, span_at}
 use Rattle.byte_fields.specs.Codec.{Stands, IsBytes, IsCodec}
-use Rattle.byte_fields.proofs.Codec.{span_codec, u16_codec, each_codec, counted_codec, codec_for, again2}
+use Rattle.byte_fields.proofs.Facts.{le_holds, le_of}
+use Rattle.byte_fields.proofs.Codec.{span_codec, u16_codec, ruled_codec, each_codec, counted_codec, codec_for, again2}
 use Rattle.file_paths.specs.Path.{FilePath, IsPath}
 use Rattle.file_paths.specs.Spelling.{path}
 use Rattle.file_paths.specs.Reading.{path_at}
 use Rattle.file_paths.proofs.Parts.{path_codec}
 use Rattle.store_parcels.specs.declared.front.NamedStore.{NamedStore}
 use Rattle.store_parcels.specs.declared.front.Front.{Front}
+use Rattle.store_parcels.specs.Limits.{max_sources}
 use Rattle.store_parcels.specs.Front.{sources, paths_at, sources_at, front_at}
 
 all_found : (paths : List FilePath) → EachFits {S = Unit {0}} (λ state x. IsPath x) (λ state x. state) tt paths → AllByRecursion IsPath paths
@@ -29,14 +32,14 @@ paths_codec n =
 
 -- paths that have a spelling behind their number
 abbrev pub SourcesFit : List FilePath → Type 0
-SourcesFit paths = (length paths < 2 ^ 16) × AllByRecursion IsPath paths
+SourcesFit paths = (length paths ≤ max_sources) × AllByRecursion IsPath paths
 
 pub sources_codec : IsCodec sources_at sources SourcesFit
 unfolding sources_at
 sources_codec =
-    codec_for (counted_codec length u16_codec (λ n lt. paths_codec n) (λ n paths fits. fits.0))
-    (λ paths fits. (fits.0, fits.1.1))
-    (λ paths fits. (fits.0, (refl, fits.1)))
+    codec_for (counted_codec length (ruled_codec (λ n. nat_le n max_sources) u16_codec) (λ n few. paths_codec n) (λ n paths fits. fits.0))
+    (λ paths fits. (le_of (length paths) max_sources fits.0.1, fits.1.1))
+    (λ paths fits. ((omega (arith, fits.0), le_holds (length paths) max_sources fits.0), (refl, fits.1)))
 
 pub sources_are_within : (bytes : List ℕ) (at : ℕ) (paths : List FilePath) (next : ℕ) → IsBytes bytes → at ≤ length bytes
     → sources_at bytes at ≡ Ok (paths, next) → next ≤ length bytes

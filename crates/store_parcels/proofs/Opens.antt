@@ -1,5 +1,5 @@
 -- What is packed opens.
-use Rattle.std.proofs.Common.{◌≡◌, ℕ, ◌+◌, ◌-◌, ◌^◌, ◌<◌, ◌≤◌, true, List, [], ◌∷◌, ◌++◌, length, take, drop, get_or, Ok, refl, sym, ap, subst, ◌∙◌, arith, length-append, length-drop}
+use Rattle.std.proofs.Common.{◌≡◌, ℕ, ◌+◌, ◌-◌, ◌^◌, ◌<◌, ◌≤◌, true, List, [], ◌∷◌, ◌++◌, length, take, drop, get_or, Ok, refl, sym, ap, subst, ◌∙◌, arith, length-append, length-drop, append_assoc}
 use Rattle.std.specs.Prelude.{Option, Some, slice_get}
 use Rattle.std.specs.Int.{w32, w64, from_be_bytes}
 use Rattle.std.specs.List.{AllByRecursion, All}
@@ -12,7 +12,7 @@ use Rattle.sha2.specs.Sha256.{sha256}
 use Rattle.sha2.proofs.Facts256.{length-sha256}
 use Rattle.byte_fields.specs.Field.{digits}
 use Rattle.byte_fields.specs.Codec.{Stands}
-use Rattle.byte_fields.proofs.Facts.{four_bytes, and_holds}
+use Rattle.byte_fields.proofs.Facts.{four_bytes, and_holds, le_holds}
 use Rattle.file_paths.specs.Path.{FilePath, IsPath}
 use Rattle.tree_values.specs.Limits.{max_files}
 use Rattle.tree_values.specs.Tree.{Volume}
@@ -23,13 +23,16 @@ use Rattle.wire_frames.proofs.Frames.{IsSized, are_sized}
 use Rattle.delta_pieces.specs.declared.pieces.Step.{Step}
 use Rattle.delta_pieces.specs.declared.pieces.Pieces.{Pieces}
 use Rattle.delta_pieces.specs.Making.{expanded, at_start, StandFor, HasCount}
-use Rattle.step_spelling.specs.Spelling.{steps_spelled, HaveSpelling}
+use Rattle.short_numbers.specs.Numbers.{number_spelled, first_number}
+use Rattle.short_numbers.proofs.Reading.{numbers_are_read}
+use Rattle.step_spelling.specs.Spelling.{steps_spelled, each_spelled, HaveSpelling, at_start as start_of}
 use Rattle.step_spelling.specs.Reading.{steps_read}
 use Rattle.step_spelling.specs.Laws.{StepsAreRead, FoundStepsHaveASpelling}
 use Rattle.store_parcels.specs.declared.front.NamedStore.{NamedStore}
 use Rattle.store_parcels.specs.declared.front.Front.{Front}
+use Rattle.store_parcels.specs.Limits.{max_steps}
 use Rattle.store_parcels.specs.Front.{is_parcel, sources, front, named_store, front_at, front_of}
-use Rattle.store_parcels.specs.Opening.{file_at, joined, known_in, made_of, is_head_of, is_frame_of, opened_behind, opened, few as few_of}
+use Rattle.store_parcels.specs.Opening.{file_at, joined, known_in, made_of, is_head_of, is_frame_of, opened_behind, opened, few_told, tells_few, few as few_of}
 use Rattle.store_parcels.specs.Packing.{payload, parcel, HasFilesOf, OpensTo}
 use Rattle.store_parcels.proofs.Fronts.{SourcesFit, front_is_read}
 
@@ -125,13 +128,21 @@ behind bytes text tail long e =
 
 -- ---- a parcel opens
 
+few_are_told : (known : ℕ) (steps : List Step) (fresh : List ℕ) → length steps ≤ max_steps → tells_few (steps_spelled known steps ++ fresh) ≡ true
+few_are_told known steps fresh few =
+    let rest : List ℕ = each_spelled (start_of known) steps ++ fresh in
+    let text : steps_spelled known steps ++ fresh ≡ number_spelled (length steps) ++ rest =
+    append_assoc (number_spelled (length steps)) (each_spelled (start_of known) steps) fresh in
+    let told : first_number (number_spelled (length steps) ++ rest) ≡ Some (length steps, rest) = numbers_are_read (length steps) rest (omega (arith, few)) in
+    ap tells_few text ∙ (ap few_told told ∙ le_holds (length steps) max_steps few)
+
 front_from : (bytes : List ℕ) (store : NamedStore) (f : Front) (next : ℕ) → named_store bytes ≡ Some store → front_at store bytes 16 ≡ Ok (f, next)
     → front_of bytes ≡ Some (f, next)
 front_from bytes store f next named read = rw (named, read) refl
 
-made_from : (known rest plain : List ℕ) (steps : List Step) (fresh : List ℕ) → steps_read (length known) rest ≡ Some (steps, fresh)
+made_from : (known rest plain : List ℕ) (steps : List Step) (fresh : List ℕ) → tells_few rest ≡ true → steps_read (length known) rest ≡ Some (steps, fresh)
     → expanded (length known + max_frame) 0 steps (at_start known fresh) ≡ Ok (known ++ plain) → made_of known rest ≡ Some plain
-made_from known rest plain steps fresh read makes = rw (read, makes) (ap Some (drop_at known plain (length known) refl))
+made_from known rest plain steps fresh tells read makes = rw (tells, read, makes) (ap Some (drop_at known plain (length known) refl))
 
 opened_from : (volume : Volume) (bytes rest known plain : List ℕ) (f : Front) (next : ℕ) → front_of bytes ≡ Some (f, next) → drop next bytes ≡ rest
     → known_in volume f.sources ≡ Some known → made_of known rest ≡ Some plain → is_frame_of f plain ≡ true → opened volume bytes ≡ Some plain
@@ -144,8 +155,8 @@ pub parcel_opens : StepsAreRead → (volume : Volume) (f : Front) (known plain :
     → SourcesFit f.sources → known_in volume f.sources ≡ Some known → HaveSpelling (length known) pieces.steps.items → StandFor known plain pieces
     → length plain ≤ max_frame → is_frame_of f plain ≡ true
     → length (parcel f (length known) pieces.steps.items pieces.fresh.items) ≤ max_frame
-    → opened volume (parcel f (length known) pieces.steps.items pieces.fresh.items) ≡ Some plain
-parcel_opens steps_are_read volume f known plain pieces store_fits print_long sources_fit known_is spelled stand few is small =
+    → length pieces.steps.items ≤ max_steps → opened volume (parcel f (length known) pieces.steps.items pieces.fresh.items) ≡ Some plain
+parcel_opens steps_are_read volume f known plain pieces store_fits print_long sources_fit known_is spelled stand few is small few_steps =
     let steps : List Step = pieces.steps.items in
     let fresh : List ℕ = pieces.fresh.items in
     let bytes : List ℕ = parcel f (length known) steps fresh in
@@ -162,7 +173,7 @@ parcel_opens steps_are_read volume f known plain pieces store_fits print_long so
     steps_are_read (length known) steps fresh spelled in
     let made : expanded (length known + max_frame) 0 steps (at_start known fresh) ≡ Ok (known ++ plain) = stand max_frame few in
     let makes : made_of known (steps_spelled (length known) steps ++ fresh) ≡ Some plain =
-    made_from known (steps_spelled (length known) steps ++ fresh) plain steps fresh stepped made in
+    made_from known (steps_spelled (length known) steps ++ fresh) plain steps fresh (few_are_told (length known) steps fresh few_steps) stepped made in
     opened_from volume bytes (steps_spelled (length known) steps ++ fresh) known plain f (16 + length text) fronted b.left known_is makes is
 
 -- ---- over volumes with the same files
@@ -182,10 +193,10 @@ length_is_set p old new begun set =
 
 pub packed_opens : StepsAreRead → FoundStepsHaveASpelling → (volume : Volume) (store : NamedStore) (paths : List FilePath) (known plain old new : List ℕ) (pieces : Pieces)
     → StoreFits store → SourcesFit paths → known_in volume paths ≡ Some known → length known ≤ max_files
-    → StandFor known plain pieces → All HasCount pieces.steps.items → length plain ≤ max_frame → is_head_of store (head_at plain) ≡ true
+    → StandFor known plain pieces → All HasCount pieces.steps.items → length pieces.steps.items ≤ max_steps → length plain ≤ max_frame → is_head_of store (head_at plain) ≡ true
     → old ≡ digits w32 0 ++ payload (record { store = store; print = sha256 plain; sources = paths }) (length known) pieces.steps.items pieces.fresh.items
     → length old < length plain → new ≡ digits w32 (length old - 4) ++ drop 4 old → OpensTo volume paths new plain
-packed_opens steps_are_read have_spelling volume store paths known plain old new pieces store_fits paths_fit known_is few stand counts small told begun shorter set other alike =
+packed_opens steps_are_read have_spelling volume store paths known plain old new pieces store_fits paths_fit known_is few stand counts few_steps small told begun shorter set other alike =
     let f : Front = record { store = store; print = sha256 plain; sources = paths } in
     let steps : List Step = pieces.steps.items in
     let fresh : List ℕ = pieces.fresh.items in
@@ -198,4 +209,4 @@ packed_opens steps_are_read have_spelling volume store paths known plain old new
     let within : length (parcel f (length known) steps fresh) ≤ max_frame =
     omega (arith, parcel_length f (length known) steps fresh, ap length begun, length-append (digits w32 0) p, four_bytes 0) in
     ap (opened other) new_is
-    ∙ parcel_opens steps_are_read other f known plain pieces store_fits (length-sha256 plain) paths_fit there spelled stand small is within
+    ∙ parcel_opens steps_are_read other f known plain pieces store_fits (length-sha256 plain) paths_fit there spelled stand small is within few_steps

@@ -1,16 +1,17 @@
 -- What stands before the steps of a parcel: of which store it is, the print of the store's frame, and where the known bytes are.
-use Rattle.std.specs.Prelude.{ℕ, ◌<◌, ◌^◌, ◌≡◌, ◌==◌, ◌&&◌, Bool, List, [], ◌∷◌, ◌++◌, length, take, drop, slice_index, slice_get}
+use Rattle.std.specs.Prelude.{ℕ, ◌==◌, ◌&&◌, nat_le, Bool, List, [], ◌∷◌, ◌++◌, length, take, drop, slice_index, slice_get}
 use Rattle.std.specs.Prelude.{Option, None, if◌then◌else◌}
 use Rattle.std.specs.Int.{w16, w64, from_be_bytes}
-use Rattle.std.specs.List.{flat_map, AllByRecursion}
+use Rattle.std.specs.List.{flat_map}
 use Rattle.std.specs.Option.{option_map, option_and_then}
 use Rattle.std.specs.Result.{result_ok}
-use Rattle.byte_fields.specs.Field.{Reader, ◌>>=◌, two, digits, span_at, number_at, each_at}
-use Rattle.file_paths.specs.Path.{FilePath, IsPath}
+use Rattle.byte_fields.specs.Field.{Reader, ◌>>=◌, ruled, two, digits, span_at, number_at, each_at}
+use Rattle.file_paths.specs.Path.{FilePath}
 use Rattle.file_paths.specs.Spelling.{path}
 use Rattle.file_paths.specs.Reading.{path_at}
 use Rattle.wire_frames.specs.Frame.{frame_version}
 use Rattle.wire_frames.specs.Reading.{is_sized}
+use Rattle.store_parcels.specs.Limits.{max_sources}
 use Rattle.store_parcels.specs.declared.front.NamedStore.{NamedStore}
 use Rattle.store_parcels.specs.declared.front.Front.{Front}
 
@@ -36,15 +37,6 @@ sources paths = digits w16 (length paths) ++ flat_map path paths
 abbrev pub front : Front → List ℕ
 front f = store f.store ++ (f.print ++ sources f.sources)
 
--- a front that has a spelling
-pub record FrontFits (f : Front) : Type 0 where
-  pub client : f.store.client < 2 ^ 8
-  pub number : f.store.number < 2 ^ 64
-  pub entries : f.store.entries < 2 ^ 8
-  pub print : length f.print ≡ 32
-  pub few : length f.sources < 2 ^ 16
-  pub paths : AllByRecursion IsPath f.sources
-
 -- ---- reading
 
 -- the client at byte 6, the number in the eight bytes behind it, and so many entries
@@ -59,10 +51,10 @@ named_store bytes = if is_parcel bytes then option_map (store_with bytes) (slice
 unfoldable pub paths_at : ℕ → Reader (List FilePath)
 paths_at count = each_at {S = Unit {0}} {A = FilePath} (λ state. path_at) (λ state x. state) count tt
 
--- paths, behind their number
+-- paths, behind their number, which is no greater than a parcel's may be
 unfoldable pub sources_at : Reader (List FilePath)
 sources_at bytes at = do
-  count ← number_at w16 bytes at
+  count ← ruled (λ n. nat_le n max_sources) (number_at w16) bytes at
   paths_at count.0 bytes count.1
 
 -- what stands behind the store

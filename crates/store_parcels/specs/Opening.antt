@@ -16,9 +16,11 @@ use Rattle.wire_frames.specs.declared.message.Kind.{Kind}
 use Rattle.wire_frames.specs.declared.message.Kind.TheVariants.{Store}
 use Rattle.delta_pieces.specs.declared.pieces.Step.{Step}
 use Rattle.delta_pieces.specs.Making.{expanded, at_start}
+use Rattle.short_numbers.specs.Numbers.{first_number}
 use Rattle.step_spelling.specs.Reading.{steps_read}
 use Rattle.store_parcels.specs.declared.front.NamedStore.{NamedStore}
 use Rattle.store_parcels.specs.declared.front.Front.{Front}
+use Rattle.store_parcels.specs.Limits.{max_steps}
 use Rattle.store_parcels.specs.Front.{front_of}
 
 -- ---- the known bytes
@@ -53,9 +55,17 @@ abbrev pub made_by : List ℕ → List Step × List ℕ → Option (List ℕ)
 made_by known pieces =
     option_map (drop (length known)) (result_ok (expanded (length known + max_frame) 0 pieces.0 (at_start known pieces.1)))
 
+abbrev pub few_told : Option (ℕ × List ℕ) → Bool
+few_told None = false
+few_told (Some told) = nat_le told.0 max_steps
+
+-- whether the number at the front is no greater than that of a parcel's steps may be
+abbrev pub tells_few : List ℕ → Bool
+tells_few bytes = few_told (first_number bytes)
+
 -- the same of bytes that spell steps, and behind them the new bytes
 abbrev pub made_of : List ℕ → List ℕ → Option (List ℕ)
-made_of known bytes = option_and_then (made_by known) (steps_read (length known) bytes)
+made_of known bytes = if tells_few bytes then option_and_then (made_by known) (steps_read (length known) bytes) else None
 
 abbrev pub is_store_kind : Kind → Bool
 is_store_kind Store = true

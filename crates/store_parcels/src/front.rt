@@ -7,6 +7,7 @@ ghost use Rattle.wire_frames.specs.Reading.{is_sized};
 ghost use Rattle.file_paths.specs.Reading.{path_at};
 ghost use Rattle.store_parcels.specs.Front.{front_at, front_of, is_parcel, named_store, sources_at};
 
+use crate::limits::MAX_SOURCES;
 use byte_fields::{Item, TakeError, span_at, take_each, u16_at};
 use std::alloc::{AllocError, Global};
 use vol_tree::{Path, Paths};
@@ -124,6 +125,9 @@ fn sources_at(alloc: Global, bytes: &[u8], at: usize) -> Result<(Paths, usize), 
     ensures { Gives result (sources_at bytes.now at) }
 {
     let (count, start) = u16_at(bytes, at)?;
+    if count > MAX_SOURCES {
+        return Err(TakeError::At(at));
+    }
     let (items, next) = take_each::<Source, Path>(alloc, bytes, start, count as u32, &mut Source)?;
     Ok((Paths::from_vec(items), next))
 }

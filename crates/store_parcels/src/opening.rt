@@ -3,19 +3,21 @@
 ghost use Rattle.std.specs.Prelude.{◌≡◌, ◌≤◌, ◌<◌, ◌^◌, length, IfOk};
 ghost use Rattle.std.specs.Option.{option_map};
 ghost use Rattle.tree_values.specs.Limits.{max_files};
-ghost use Rattle.store_parcels.specs.Opening.{is_frame_of, is_head_of, made_of, opened, opened_behind};
+ghost use Rattle.store_parcels.specs.Opening.{is_frame_of, is_head_of, made_of, opened, opened_behind, tells_few};
 
 use crate::front::{Front, NamedStore, front_of};
 use crate::known::known_in;
+use crate::limits::MAX_STEPS;
 use delta_pieces::{ExpandError, Pieces, expand};
 use sha2::{Digest, Sha256};
+use short_numbers::split_number;
 use std::alloc::{AllocError, Global};
 use step_spelling::{StepsError, split_steps};
 use vol_tree::Tree;
 use wire_frames::{Head, Kind, MAX_FRAME, head_of};
 
 /// The frame that a parcel stands for, where these are the files of the server. `None` where the bytes are no parcel, or one that does
-/// not open: a field is faulty, a source is no file, the sources have more bytes than a tree, a step does not fit, more is made than a
+/// not open: a field is faulty, a source is no file, there are too many, or they have more bytes than a tree, a step does not fit, more is made than a
 /// frame has, or what is made is not the frame that the parcel names.
 ///
 /// # Errors
@@ -56,6 +58,9 @@ fn made_of(alloc: Global, known: &[u8], bytes: &[u8]) -> Result<Option<Vec<u8>>,
     requires { length known.now ≤ max_files }
     ensures { IfOk result (λ made. option_map (λ content. content.items) made ≡ made_of known.now bytes.now) }
 {
+    if !tells_few(bytes) {
+        return Ok(None);
+    }
     let (steps, rest) = match split_steps(alloc, known.len() as u32, bytes) {
         Ok(read) => read,
         Err(StepsError::NoSteps) => return Ok(None),
@@ -67,6 +72,16 @@ fn made_of(alloc: Global, known: &[u8], bytes: &[u8]) -> Result<Option<Vec<u8>>,
         Ok(content) => Ok(Some(content)),
         Err(ExpandError::BadStep(_)) => Ok(None),
         Err(ExpandError::Memory) => Err(AllocError),
+    }
+}
+
+/// Whether the number at the front is no greater than that of a parcel's steps may be.
+fn tells_few(bytes: &[u8]) -> bool
+    ensures { result ≡ tells_few bytes.now }
+{
+    match split_number(bytes) {
+        Some((count, _)) => count <= MAX_STEPS,
+        None => false,
     }
 }
 

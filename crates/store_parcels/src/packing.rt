@@ -16,6 +16,7 @@ ghost use Rattle.store_parcels.specs.Packing.{payload, HasFilesOf, OpensTo};
 
 use crate::front::{FRAME_VERSION, NamedStore, PARCEL_KIND};
 use crate::known::{known_in, size_at};
+use crate::limits::{MAX_SOURCES, MAX_STEPS};
 use byte_fields::{put_u16, put_u32, put_u64};
 use delta_pieces::{Pieces, Step, pieces_of};
 use sha2::{Digest, Sha256};
@@ -24,11 +25,8 @@ use step_spelling::{found_steps_have_a_spelling, put_steps, steps_are_read};
 use vol_tree::{Path, Tree};
 use wire_frames::{MAX_FRAME, head_of};
 
-/// The most sources that a parcel has.
-const MAX_SOURCES: usize = 65_535;
-
 /// A parcel of the frame of a store, over the contents of those of these files that it takes anything of. `None` where it would not be
-/// shorter than the frame, or the frame is of no store.
+/// shorter than the frame, or too many sources or steps go into it, or the frame is of no store.
 ///
 /// # Errors
 ///
@@ -143,13 +141,16 @@ fn parcel_over(
     found_steps_have_a_spelling();
     store.is_in_range();
     are_paths(sources);
-    if sources.len() > MAX_SOURCES {
+    if sources.len() > MAX_SOURCES as usize {
         return Ok(None);
     }
     let Some(known) = known_in(alloc, tree, sources)? else {
         return Ok(None);
     };
     let pieces = pieces_of(alloc, known.as_slice(), frame)?;
+    if pieces.steps.len() > MAX_STEPS as usize {
+        return Ok(None);
+    }
     let print = Sha256::digest(frame);
     let mut parcel = spelled(alloc, store, &print, sources, known.len() as u32, &pieces)?;
     if parcel.len() >= frame.len() {
