@@ -184,6 +184,12 @@ joined_alike volume other (path ∷ paths) alike =
     ap (λ (o : Option (List ℕ)). option_and_then (λ content. option_map (λ others. content ++ others) (joined other paths)) o) alike.0
     ∙ ap (λ (o : Option (List ℕ)). option_and_then (λ content. option_map (λ others. content ++ others) o) (file_at volume path)) (joined_alike volume other paths alike.1)
 
+-- setting the length keeps it
+pub set_keeps : (p old new : List ℕ) → old ≡ digits w32 0 ++ p → new ≡ digits w32 (length old - 4) ++ drop 4 old → length new ≡ length old
+set_keeps p old new begun set =
+    let long : length old ≡ 4 + length p = omega (arith, ap length begun, length-append (digits w32 0) p, four_bytes 0) in
+    omega (arith, ap length set, length-append (digits w32 (length old - 4)) (drop 4 old), four_bytes (length old - 4), length-drop 4 old, long)
+
 -- the length is set
 length_is_set : (p old new : List ℕ) → old ≡ digits w32 0 ++ p → new ≡ digits w32 (length old - 4) ++ drop 4 old → new ≡ digits w32 (length p) ++ p
 length_is_set p old new begun set =
@@ -191,7 +197,7 @@ length_is_set p old new begun set =
     let rest : drop 4 old ≡ p = ap (drop 4) begun ∙ drop_at (digits w32 0) p 4 (four_bytes 0) in
     set ∙ (ap (λ (n : ℕ). digits w32 n ++ drop 4 old) size ∙ ap (λ (l : List ℕ). digits w32 (length p) ++ l) rest)
 
-pub packed_opens : StepsAreRead → FoundStepsHaveASpelling → (volume : Volume) (store : NamedStore) (paths : List FilePath) (known plain old new : List ℕ) (pieces : Pieces)
+packed_opens : StepsAreRead → FoundStepsHaveASpelling → (volume : Volume) (store : NamedStore) (paths : List FilePath) (known plain old new : List ℕ) (pieces : Pieces)
     → StoreFits store → SourcesFit paths → known_in volume paths ≡ Some known → length known ≤ max_files
     → StandFor known plain pieces → All HasCount pieces.steps.items → length pieces.steps.items ≤ max_steps → length plain ≤ max_frame → is_head_of store (head_at plain) ≡ true
     → old ≡ digits w32 0 ++ payload (record { store = store; print = sha256 plain; sources = paths }) (length known) pieces.steps.items pieces.fresh.items
@@ -210,3 +216,18 @@ packed_opens steps_are_read have_spelling volume store paths known plain old new
     omega (arith, parcel_length f (length known) steps fresh, ap length begun, length-append (digits w32 0) p, four_bytes 0) in
     ap (opened other) new_is
     ∙ parcel_opens steps_are_read other f known plain pieces store_fits (length-sha256 plain) paths_fit there spelled stand small is within few_steps
+
+-- the same of a print and a number of known bytes that are told
+pub spelled_opens : StepsAreRead → FoundStepsHaveASpelling → (volume : Volume) (store : NamedStore) (paths : List FilePath) (known plain old new print : List ℕ) (k : ℕ) (pieces : Pieces)
+    → print ≡ sha256 plain → k ≡ length known
+    → old ≡ digits w32 0 ++ payload (record { store = store; print = print; sources = paths }) k pieces.steps.items pieces.fresh.items
+    → StoreFits store → SourcesFit paths → known_in volume paths ≡ Some known → length known ≤ max_files
+    → StandFor known plain pieces → All HasCount pieces.steps.items → length pieces.steps.items ≤ max_steps → length plain ≤ max_frame
+    → is_head_of store (head_at plain) ≡ true → length old < length plain → new ≡ digits w32 (length old - 4) ++ drop 4 old → OpensTo volume paths new plain
+spelled_opens are_read have volume store paths known plain old new print k pieces print_is k_is begun store_fits paths_fit known_is few stand counts few_steps small told shorter set =
+    packed_opens are_read have volume store paths known plain old new pieces store_fits paths_fit known_is few stand counts few_steps small told
+    (begun ∙ ap (λ (x : List ℕ × ℕ). digits w32 0 ++ payload (record { store = store; print = x.0; sources = paths }) x.1 pieces.steps.items pieces.fresh.items) (both print_is k_is))
+    shorter set
+  where
+    both : {p q : List ℕ} {m n : ℕ} → p ≡ q → m ≡ n → (p, m) ≡ (q, n)
+    both e f = cc

@@ -120,7 +120,7 @@ fn number_behind(bytes: &[u8]) -> u64
 }
 
 /// The paths of the sources at the place.
-#[tactic(auto, unfolding(crate::specs::Front::sources_at))]
+#[tactic(auto, unfolding(crate::specs::Front::sources_at, byte_fields::specs::Field::ruled))]
 fn sources_at(alloc: Global, bytes: &[u8], at: usize) -> Result<(Paths, usize), TakeError>
     ensures { Gives result (sources_at bytes.now at) }
 {

@@ -14,12 +14,12 @@ returns-in_err-items c =
     let fault : Fails c.in_err-items.field-0.0 (paths_at c.in_ok-count.count c.args.bytes.now c.in_ok-count.start) =
     subst (λ read. Fails c.in_err-items.field-0.0 read)
     (alike_from c.in_ok-count.count _ c.args.bytes.now c.in_ok-count.start) c.in_err-items.ensures.exact in
-    let few = le_holds c.in_ok-count.count max_sources (omega (arith, c.if-count-MAX_SOURCES.false)) in
+    let few = le_holds c.in_ok-count.count max_sources (omega (arith, c.if-count-gt-MAX_SOURCES.false)) in
     rw (p.1, p.2, c.in_ok-count.ensures, few) fault
 
 pub returns : goal.returns
 unfolding sources_at ruled
 returns c =
     let found = sym (alike_from c.in_ok-count.count _ c.args.bytes.now c.in_ok-count.start) ∙ c.in_ok-items.ensures.exact in
-    let few = le_holds c.in_ok-count.count max_sources (omega (arith, c.if-count-MAX_SOURCES.false)) in
+    let few = le_holds c.in_ok-count.count max_sources (omega (arith, c.if-count-gt-MAX_SOURCES.false)) in
     rw (c.in_ok-count.ensures, few, c.from_vec.ensures) found
