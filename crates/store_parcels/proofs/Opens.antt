@@ -226,8 +226,7 @@ pub spelled_opens : StepsAreRead → FoundStepsHaveASpelling → (volume : Volum
     → is_head_of store (head_at plain) ≡ true → length old < length plain → new ≡ digits w32 (length old - 4) ++ drop 4 old → OpensTo volume paths new plain
 spelled_opens are_read have volume store paths known plain old new print k pieces print_is k_is begun store_fits paths_fit known_is few stand counts few_steps small told shorter set =
     packed_opens are_read have volume store paths known plain old new pieces store_fits paths_fit known_is few stand counts few_steps small told
-    (begun ∙ ap (λ (x : List ℕ × ℕ). digits w32 0 ++ payload (record { store = store; print = x.0; sources = paths }) x.1 pieces.steps.items pieces.fresh.items) (both print_is k_is))
+    (begun
+    ∙ (ap (λ (p : List ℕ). digits w32 0 ++ payload (record { store = store; print = p; sources = paths }) k pieces.steps.items pieces.fresh.items) print_is
+    ∙ ap (λ (n : ℕ). digits w32 0 ++ payload (record { store = store; print = sha256 plain; sources = paths }) n pieces.steps.items pieces.fresh.items) k_is))
     shorter set
-  where
-    both : {p q : List ℕ} {m n : ℕ} → p ≡ q → m ≡ n → (p, m) ≡ (q, n)
-    both e f = cc
