@@ -1,8 +1,8 @@
 -- What stands before the steps is read as it is spelled.
-use Rattle.std.proofs.Common.{◌≡◌, ℕ, ◌+◌, ◌^◌, ◌<◌, ◌≤◌, List, [], ◌∷◌, ◌++◌, length, Ok, refl, arith}
+use Rattle.std.proofs.Common.{◌≡◌, ℕ, ◌≤◌, List, [], ◌∷◌, ◌++◌, length, Ok, refl, arith}
 use Rattle.std.specs.Prelude.{nat_le}
 use Rattle.std.specs.List.{flat_map, AllByRecursion}
-use Rattle.byte_fields.specs.Field.{EachFits, span_at}
+use Rattle.byte_fields.specs.Field.{EachFits}
 use Rattle.byte_fields.specs.Codec.{Stands, IsBytes, IsCodec}
 use Rattle.byte_fields.proofs.Facts.{le_holds, le_of}
 use Rattle.byte_fields.proofs.Codec.{span_codec, u16_codec, ruled_codec, each_codec, counted_codec, codec_for, again2}
@@ -11,7 +11,6 @@ use Rattle.file_paths.specs.Spelling.{path}
 use Rattle.file_paths.specs.Reading.{path_at}
 use Rattle.file_paths.proofs.Parts.{path_codec}
 use Rattle.store_parcels.specs.declared.front.NamedStore.{NamedStore}
-use Rattle.store_parcels.specs.declared.front.Front.{Front}
 use Rattle.store_parcels.specs.Limits.{max_sources}
 use Rattle.store_parcels.specs.Front.{sources, paths_at, sources_at, front_at}
 

@@ -1,8 +1,8 @@
 -- What is packed opens.
-use Rattle.std.proofs.Common.{◌≡◌, ℕ, ◌+◌, ◌-◌, ◌^◌, ◌<◌, ◌≤◌, true, List, [], ◌∷◌, ◌++◌, length, take, drop, get_or, Ok, refl, sym, ap, subst, ◌∙◌, arith, length-append, length-drop, append_assoc}
+use Rattle.std.proofs.Common.{◌≡◌, ℕ, ◌+◌, ◌-◌, ◌^◌, ◌<◌, ◌≤◌, true, List, [], ◌∷◌, ◌++◌, length, take, drop, get_or, Ok, refl, sym, ap, ◌∙◌, arith, length-append, length-drop, append_assoc}
 use Rattle.std.specs.Prelude.{Option, Some, slice_get}
 use Rattle.std.specs.Int.{w32, w64, from_be_bytes}
-use Rattle.std.specs.List.{AllByRecursion, All}
+use Rattle.std.specs.List.{All}
 use Rattle.std.specs.Option.{option_map, option_and_then}
 use Rattle.std.specs.Str.{bytes_eq}
 use Rattle.std.proofs.lemmas.List.{take_at, drop_at, drop-drop}
@@ -13,7 +13,7 @@ use Rattle.sha2.proofs.Facts256.{length-sha256}
 use Rattle.byte_fields.specs.Field.{digits}
 use Rattle.byte_fields.specs.Codec.{Stands}
 use Rattle.byte_fields.proofs.Facts.{four_bytes, and_holds, le_holds}
-use Rattle.file_paths.specs.Path.{FilePath, IsPath}
+use Rattle.file_paths.specs.Path.{FilePath}
 use Rattle.tree_values.specs.Limits.{max_files}
 use Rattle.tree_values.specs.Tree.{Volume}
 use Rattle.wire_frames.specs.Limits.{max_frame}
@@ -31,7 +31,7 @@ use Rattle.step_spelling.specs.Laws.{StepsAreRead, FoundStepsHaveASpelling}
 use Rattle.store_parcels.specs.declared.front.NamedStore.{NamedStore}
 use Rattle.store_parcels.specs.declared.front.Front.{Front}
 use Rattle.store_parcels.specs.Limits.{max_steps}
-use Rattle.store_parcels.specs.Front.{is_parcel, sources, front, named_store, front_at, front_of}
+use Rattle.store_parcels.specs.Front.{is_parcel, sources, named_store, front_at, front_of}
 use Rattle.store_parcels.specs.Opening.{file_at, joined, known_in, made_of, is_head_of, is_frame_of, opened_behind, opened, few_told, tells_few, few as few_of}
 use Rattle.store_parcels.specs.Packing.{payload, parcel, HasFilesOf, OpensTo}
 use Rattle.store_parcels.proofs.Fronts.{SourcesFit, front_is_read}

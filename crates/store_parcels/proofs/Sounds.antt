@@ -1,29 +1,26 @@
 -- What opens is what the parcel names.
-use Rattle.std.proofs.Common.{◌≡◌, ℕ, ◌+◌, Bool, true, false, List, [], ◌∷◌, ◌++◌, length, take, drop, get_or, Result, Ok, Err, refl, sym, ap, subst, ◌∙◌, inl, inr}
+use Rattle.std.proofs.Common.{◌≡◌, ℕ, Bool, true, false, List, drop, get_or, Result, Ok, Err, refl, sym, ap, subst, ◌∙◌}
 use Rattle.std.specs.Prelude.{Option, Some, None, ◌&&◌, ◌==◌, if◌then◌else◌}
-use Rattle.std.specs.Option.{option_map, option_and_then}
+use Rattle.std.specs.Option.{option_and_then}
 use Rattle.std.specs.Result.{result_ok}
 use Rattle.std.specs.Str.{bytes_eq}
 use Rattle.std.proofs.lemmas.Slice.Eq.{bytes_eq-Decides}
 use Rattle.sha2.specs.Sha256.{sha256}
-use Rattle.byte_fields.specs.Field.{Reader, ◌>>=◌, span_at}
+use Rattle.byte_fields.specs.Field.{◌>>=◌, span_at}
 use Rattle.byte_fields.proofs.Facts.{and_of, eq_of}
 use Rattle.byte_fields.proofs.Codec.{bind_ok, ok_is}
-use Rattle.file_paths.specs.Path.{FilePath}
 use Rattle.tree_values.specs.Tree.{Volume}
-use Rattle.wire_frames.specs.declared.message.Message.{Message}
 use Rattle.wire_frames.specs.declared.message.Kind.{Kind}
 use Rattle.wire_frames.specs.declared.message.Kind.TheVariants.{Store, Operate, Pull, Accepted, Stale, Unfit, Gap, Snapshot, Done, Declined, Full, Malformed}
-use Rattle.wire_frames.specs.declared.message.FrameError.{FrameError}
 use Rattle.wire_frames.specs.declared.message.FrameError.TheVariants.{BadKind}
 use Rattle.wire_frames.specs.declared.head.Head.{Head}
-use Rattle.wire_frames.specs.Frame.{frame, frame_version, IsValid}
+use Rattle.wire_frames.specs.Frame.{frame, frame_version}
 use Rattle.wire_frames.specs.Head.{head_at}
-use Rattle.wire_frames.specs.Reading.{frame_of, is_sized, kind_of}
+use Rattle.wire_frames.specs.Reading.{frame_of, is_sized}
 use Rattle.wire_frames.proofs.Frames.{frame_again}
 use Rattle.store_parcels.specs.declared.front.NamedStore.{NamedStore}
 use Rattle.store_parcels.specs.declared.front.Front.{Front}
-use Rattle.store_parcels.specs.Front.{parcel_kind, is_parcel, named_store, store_with, sources_at, front_at, front_of}
+use Rattle.store_parcels.specs.Front.{parcel_kind, is_parcel, named_store, sources_at, front_at, front_of}
 use Rattle.store_parcels.specs.Opening.{known_in, made_of, is_store_kind, is_head_of, is_frame_of, if_named, opened_behind, opened}
 use Rattle.store_parcels.specs.Laws.{head_named, StoresAreNamed, PrintsAreOne, ParcelsHaveNoKind, FramesStay}
 

@@ -1,5 +1,6 @@
 -- What a parcel opens to, where a volume stands.
-use Rattle.std.specs.Prelude.{ℕ, ◌+◌, ◌==◌, ◌&&◌, Bool, true, false, nat_le, List, [], ◌∷◌, ◌++◌, length, drop, Option, Some, None, if◌then◌else◌}
+use Rattle.std.specs.Prelude.{ℕ, ◌+◌, ◌==◌, ◌&&◌, Bool, false, true, nat_le, List, [], ◌∷◌, ◌++◌, length, drop}
+use Rattle.std.specs.Prelude.{Option, Some, None, if◌then◌else◌}
 use Rattle.std.specs.Option.{option_map, option_and_then}
 use Rattle.std.specs.Result.{result_ok}
 use Rattle.std.specs.Str.{bytes_eq}
@@ -44,7 +45,7 @@ joined volume (path ∷ paths) =
 abbrev pub few : List ℕ → Option (List ℕ)
 few bytes = if nat_le (length bytes) max_files then Some bytes else None
 
--- the same, where they are no more than a tree has
+-- the same, where they are together no more than a tree has
 abbrev pub known_in : Volume → List FilePath → Option (List ℕ)
 known_in volume paths = option_and_then few (joined volume paths)
 

@@ -6,7 +6,8 @@ use Rattle.store_parcels.specs.declared.front.NamedStore.{NamedStore}
 -- whether all entries of a store are taken, where the last one that is taken of its client has this number
 abbrev pub is_taken : NamedStore → ℕ → Bool
 is_taken named last =
-    nat_le 1 named.number && (nat_le 1 named.entries && (nat_le named.entries max_parts && nat_le (named.number + named.entries) (last + 1)))
+    nat_le 1 named.number
+    && (nat_le 1 named.entries && (nat_le named.entries max_parts && nat_le (named.number + named.entries) (last + 1)))
 
 -- the number of the last entry of a store that is taken already
 abbrev pub taken_upto : NamedStore → ℕ → Option ℕ

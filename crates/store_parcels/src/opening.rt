@@ -17,8 +17,8 @@ use vol_tree::Tree;
 use wire_frames::{Head, Kind, MAX_FRAME, head_of};
 
 /// The frame that a parcel stands for, where these are the files of the server. `None` where the bytes are no parcel, or one that does
-/// not open: a field is faulty, a source is no file, there are too many, or they have more bytes than a tree, a step does not fit, more is made than a
-/// frame has, or what is made is not the frame that the parcel names.
+/// not open: a field is faulty, a source is no file, there are too many of them or of steps, the sources have more bytes than a tree, a
+/// step does not fit, more is made than a frame has, or what is made is not the frame that the parcel names.
 ///
 /// # Errors
 ///

@@ -171,7 +171,8 @@ fn spelled(
 ) -> Result<Vec<u8>, AllocError>
     requires few { length paths.now < 2 ^ 16 }
     requires steps { HaveSpelling known pieces.now.steps.items }
-    ensures { IfOk result (λ out. out.items ≡ digits w32 0 ++ payload (record { store = store; print = print.now; sources = paths.now }) known pieces.now.steps.items pieces.now.fresh.items) }
+    ensures { IfOk result (λ out. out.items ≡ digits w32 0
+        ++ payload (record { store = store; print = print.now; sources = paths.now }) known pieces.now.steps.items pieces.now.fresh.items) }
 {
     let mut out = Vec::new(alloc);
     put_u32(&mut out, 0)?;
