@@ -38,6 +38,13 @@ module _ (name : List ℕ) (number : ℕ) (log : Log) (notes : Option (List Clie
   all_kept None (Some y) told = absurd (cc)
   all_kept None None told = tt
 
+-- ---- which names are touched
+
+-- a pull touches the name under which its client is kept
+pub changes_pulled : (name : List ℕ) (client : ℕ) (before : Log) (end : PullEnd) (after : Log) (i j : Option Images) → PullKeeps name client before end after i j → Told i j (ChangesOnly name)
+changes_pulled name client before end after i j keeps =
+    told_as i j (Kept name client keeps.kept keeps.changes) (ChangesOnly name) keeps.keeping.told (λ x y kept. (kept.others, kept.small))
+
 -- ---- where nothing was changed
 
 -- where the name has what it had, and the others have, all is as before

@@ -1,20 +1,24 @@
 -- What a whole shelving comes to.
-use Rattle.std.proofs.Common.{◌≡◌, ◌≢◌, ◌⊎◌, inl, ⊎_elim, ◌≤◌, List, [], ◌∷◌, Option, Result, Ok, Err, refl, ◌∙◌, subst}
+use Rattle.std.proofs.Common.{Bool, true, not, ◌&&◌, ◌≡◌, ◌≢◌, ◌⊎◌, inl, ⊎_elim, ◌≤◌, List, [], ◌∷◌, Option, Result, Ok, Err, refl, sym, ◌∙◌, ap, subst}
 use Rattle.std.specs.Result.{result_map_both}
+use Rattle.std.proofs.lemmas.Bool.{true≢false}
+use Rattle.std.proofs.lemmas.Slice.Eq.{bytes_eq-Decides}
+use Rattle.outside.specs.Outside.{Told}
 use Rattle.outside.specs.Keeper.{Images}
 use Rattle.file_paths.specs.Path.{FilePath, path_of}
 use Rattle.file_paths.specs.declared.path.PathError.{PathError}
 use Rattle.tree_values.specs.declared.node.Effect.{Effect}
 use Rattle.mod_log.specs.declared.log.Entry.{Entry}
 use Rattle.mod_log.specs.Log.{Log}
+use Rattle.world_rules.proofs.Asks.{told_as}
 use Rattle.client_core.specs.Keeping.{IsKept}
 use Rattle.conflict_shelf.specs.declared.shelf.ShelfError.{ShelfError}
 use Rattle.conflict_shelf.specs.declared.shelf.ShelfError.TheVariants as shelves
 use Rattle.conflict_shelf.specs.Shelf.{shelved}
 use Rattle.client_shelf.specs.declared.ends.Ending.{Ending}
 use Rattle.client_shelf.specs.declared.ends.Ending.TheVariants as ends
-use Rattle.client_shelf.specs.Shelving.{Shelving, IsStored, IsUnused, unshelved, planned_by, planned}
-use Rattle.client_shelf.specs.Ending.{Standing, IsDue}
+use Rattle.client_shelf.specs.Shelving.{Shelving, IsShelving, is_beside, are_apart, IsStored, IsUnused, unshelved, planned_by, planned}
+use Rattle.client_shelf.specs.Ending.{Standing, ChangesOnly, IsDue}
 use Rattle.client_shelf.specs.Inside.{EndsSo}
 
 -- ---- which ends a plan has
@@ -56,3 +60,17 @@ module _ (asked : Shelving) where
       → planned asked.folder stuck.pending ≡ Err ending → EndsSo asked (Ok ending) old old
   planned_ends old stuck start ending stored kept unused is =
       inl (due_of old.images stuck start ending (planned_of (path_of asked.folder) stuck.pending ending is) stored kept unused is, refl)
+
+-- ---- what stands under the first name
+
+-- images that are apart have two names
+images_differ : (asked : Shelving) → are_apart asked.image asked.new_image ≡ true → asked.image ≢ asked.new_image
+images_differ asked apart same =
+    true≢false
+    (sym apart ∙ ap (λ (b : Bool). not b && not (is_beside asked.image asked.new_image) && not (is_beside asked.new_image asked.image))
+    ((bytes_eq-Decides asked.image asked.new_image).1 same))
+
+-- so it stays
+pub image_stays : (asked : Shelving) → IsShelving asked → (i j : Option Images) → Told i j (ChangesOnly asked.new_image) → Told i j (λ before after. after asked.image ≡ before asked.image)
+image_stays asked is i j told =
+    told_as i j (ChangesOnly asked.new_image) (λ before after. after asked.image ≡ before asked.image) told (λ x y changes. changes.0 asked.image (images_differ asked is.apart))

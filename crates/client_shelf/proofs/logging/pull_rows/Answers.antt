@@ -4,11 +4,12 @@ use Rattle.client_core.specs.declared.route.Route.{Route}
 use Rattle.client_core.specs.Keeping.{IsKept}
 use Rattle.client_core.specs.Pulling.{PullEnds}
 use Rattle.client_core.specs.Goes.{Went}
-use Rattle.client_core.specs.Causes.{HasPullCause, PullWrites}
+use Rattle.client_core.specs.Causes.{HasPullCause, PullKeeps, PullWrites}
 use Rattle.client_shelf.specs.declared.ends.Ending.{Ending}
 use Rattle.client_shelf.specs.declared.ends.ShelvingStop.{ShelvingStop}
 use Rattle.client_shelf.specs.Shelving.{Shelving, said, new_route}
 use Rattle.client_shelf.specs.Inside.{PullsTo}
+use Rattle.client_shelf.proofs.Kept.{changes_pulled}
 use Rattle.client_shelf.proofs.Pulled.{pull_unbegun, pull_went}
 use Rattle.client_shelf.proofs.logging.pull_rows.Goals as goal
 
@@ -39,3 +40,13 @@ returns-in-Ok-clause-did g c =
     subst (λ (r : Result (Option Ending) ShelvingStop). PullsTo asked start after r (record { images = i; link = t }) (record { images = j; link = u })) (sym c.ended.ensures)
     (pull_went asked start after c.requires.unused i j t u end went (λ whole none. (c.pull-end.ensures.unchanged whole none).1)
     (λ count is. let cause = subst (λ (e : PullEnd). HasPullCause e start after t.troubles u.troubles p q) is c.pull-end.ensures.cause in cause.0 c.requires.unused.1) writes)
+
+pub returns-in-Ok-clause-others : goal.returns-in-Ok-clause-others
+returns-in-Ok-clause-others g c =
+    let client = c.args.client.now in
+    let after = c.pull-end.new.self.log in
+    let end : PullEnd = c.pull-end.result in
+    let i = g.K.Keeper.images c.args.keeper.now in
+    let j = g.K.Keeper.images c.pull-end.new.keeper in
+    changes_pulled (said c.args.asked.now).new_image client.number client.log end after i j
+    (subst (λ (r : Route). PullKeeps r.image client.number client.log end after i j) c.in-Ok.ensures c.pull-end.ensures.keeps)
