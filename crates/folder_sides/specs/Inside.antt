@@ -1,0 +1,1 @@
+-- Words that only the contracts of private functions cite.
