@@ -13,12 +13,12 @@ use Rattle.folder_sides.specs.declared.sides.Sides.{Sides}
 use Rattle.folder_sides.specs.declared.ends.End.{End}
 use Rattle.folder_sides.specs.declared.ends.End.TheVariants.{Same, Lay, Own, Both}
 
--- each side has the rows of a tree, and what has no row stands in a folder here
+-- each side has the rows of a tree, and what has no row stands in a folder here, where no row does
 pub record AreSides (sides : Sides) : Type 0 where
   pub laid : AreJobRows sides.laid
   pub here : AreJobRows sides.here
   pub logged : AreJobRows sides.logged
-  pub beside : AllByRecursion (λ path. is_folder_in sides.here (folder_of path) ≡ true) sides.beside
+  pub beside : AllByRecursion (λ path. (is_folder_in sides.here (folder_of path) ≡ true) × (node_in sides.here path ≡ None)) sides.beside
 
 -- ---- a path alone
 

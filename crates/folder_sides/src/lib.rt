@@ -14,4 +14,3 @@ pub use merging::merged;
 pub use sides::{Sides, conflicts, end_of};
 pub use steps::{Step, Steps, laying};
 pub use taking::{TakeError, taken};
-
