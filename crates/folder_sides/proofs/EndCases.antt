@@ -14,7 +14,7 @@ use Rattle.folder_sides.specs.Sides.{is_same_node, is_same, end_by, end_alone, e
 
 -- ---- one node
 
-same_node_is : (a b : Node) → is_same_node a b ≡ true → a ≡ b
+pub same_node_is : (a b : Node) → is_same_node a b ≡ true → a ≡ b
 same_node_is Folder Folder h = refl
 same_node_is Folder (File c exec) h = absurd (true≢false (sym h))
 same_node_is (File c exec) Folder h = absurd (true≢false (sym h))
@@ -23,7 +23,7 @@ same_node_is (File c true) (File d false) h = absurd (true≢false (sym h))
 same_node_is (File c false) (File d true) h = absurd (true≢false (sym h))
 same_node_is (File c false) (File d false) h = ap (λ b. File b false) ((bytes_decides c d).0 h)
 
-own_node : (a : Node) → is_same_node a a ≡ true
+pub own_node : (a : Node) → is_same_node a a ≡ true
 own_node Folder = refl
 own_node (File c true) = (bytes_decides c c).1 refl
 own_node (File c false) = (bytes_decides c c).1 refl

@@ -1,5 +1,5 @@
 -- What stands at a path behind steps.
-use Rattle.std.proofs.Common.{◌≡◌, ◌⊎◌, inl, inr, ℕ, zero, suc, Bool, true, false, not, List, [], ◌∷◌, ◌++◌, reverse, take, find, Option, Some, None, is_some, cond, refl, sym, ap, ◌∙◌}
+use Rattle.std.proofs.Common.{◌≡◌, ◌⊎◌, inl, inr, ℕ, zero, suc, Bool, true, false, not, List, [], ◌∷◌, ◌++◌, reverse, take, find, Option, Some, None, is_some, option_map, cond, refl, sym, ap, ◌∙◌}
 use Rattle.std.proofs.Common.{subst, true≢false}
 use Rattle.std.specs.List.{filter_map, cons_option, AllByRecursion}
 use Rattle.std.proofs.lemmas.List.{reverse-append}
@@ -12,10 +12,13 @@ use Rattle.cmd_capture.specs.declared.job.JobRow.{JobRow}
 use Rattle.cmd_capture.specs.Rows.{is_job_row_at, node_in, AreJobRows}
 use Rattle.work_area.specs.Changes.{has_kind, is_gone}
 use Rattle.work_area.proofs.JobRows.{AreDistinct, are_distinct}
-use Rattle.work_area.proofs.Unchanged.{AreFound, are_found}
+use Rattle.work_area.proofs.Unchanged.{AreFound, are_found, kind_stays}
+use Rattle.work_area.proofs.Leading.{gone}
 use Rattle.work_area.proofs.Applying.{all_reverse, all_map}
 use Rattle.folder_sides.specs.declared.steps.Step.{Step}
 use Rattle.folder_sides.specs.Sides.{is_same}
+use Rattle.folder_sides.specs.Laws.{StepsLead}
+use Rattle.folder_sides.proofs.EndCases.{same_is}
 use Rattle.folder_sides.specs.Steps.{removal, putting, kept_for, steps, behind_step, node_behind}
 
 pub all_joined : {X : Type 0} (P : X → Type 0) (xs ys : List X) → AllByRecursion P xs → AllByRecursion P ys → AllByRecursion P (xs ++ ys)
@@ -110,3 +113,155 @@ module _ (before after : List JobRow) (path : FilePath) where
   between are_before are_after count =
       holds_behind path (IsBetween before after path) (take count (steps before after))
       (all_taken Leaves count (steps before after) (each_leaves are_before are_after)) (node_in before path) (inl refl)
+
+-- ---- behind all steps
+
+behind_joined : (path : FilePath) (node : Option Node) (xs ys : List Step)
+    → node_behind path node (xs ++ ys) ≡ node_behind path (node_behind path node xs) ys
+behind_joined path node [] ys = refl
+behind_joined path node (x ∷ xs) ys = behind_joined path (behind_step path node x) xs ys
+
+-- what a step leaves at its path
+abbrev outcome : Option Step → Option Node → Option Node
+outcome None node = node
+outcome (Some step) node = step.after
+
+abbrev outcome_of : (JobRow → Option Step) → Option JobRow → Option Node → Option Node
+outcome_of f None node = node
+outcome_of f (Some row) node = outcome (f row) node
+
+module _ (path : FilePath) (f : JobRow → Option Step) (paths : (row : JobRow) (step : Step) → f row ≡ Some step → step.path ≡ row.path) where
+  -- the step of a row
+  of_row : (row : JobRow) (node : Option Node) (more : List Step)
+      → node_behind path node (cons_option (f row) more) ≡ node_behind path (cond (is_job_row_at path row) (outcome (f row) node) node) more
+  of_row row node more = by (f row) refl
+    where
+      unchanged : (b : Bool) → cond b node node ≡ node
+      unchanged true = refl
+      unchanged false = refl
+
+      by : (o : Option Step) → f row ≡ o
+          → node_behind path node (cons_option o more) ≡ node_behind path (cond (is_job_row_at path row) (outcome o node) node) more
+      by None e = ap (λ n. node_behind path n more) (sym (unchanged (is_job_row_at path row)))
+      by (Some step) e = ap (λ p. node_behind path (cond (is_same_path p path) step.after node) more) (paths row step e)
+
+  found_joined : (xs : List JobRow) (x : JobRow) → filter_map f (reverse (x ∷ xs)) ≡ filter_map f (reverse xs) ++ cons_option (f x) []
+  found_joined xs x = ap (filter_map f) (reverse-append (x ∷ []) xs) ∙ filter_map-append f (reverse xs) (x ∷ [])
+
+  none_at : (p : FilePath) → p ≡ path → (rows : List JobRow) → AllByRecursion (λ other. is_job_row_at p other ≡ false) rows → find (is_job_row_at path) rows ≡ None
+  none_at p same [] all = refl
+  none_at p same (row ∷ rows) all =
+      let here : is_job_row_at path row ≡ false = subst (λ q. is_job_row_at q row ≡ false) same all.0 in
+      rw here (none_at p same rows all.1)
+
+  forward : (rows : List JobRow) → AreDistinct rows → (node : Option Node)
+      → node_behind path node (filter_map f rows) ≡ outcome_of f (find (is_job_row_at path) rows) node
+  forward [] distinct node = refl
+  forward (row ∷ rows) distinct node = of_row row node (filter_map f rows) ∙ by (is_job_row_at path row) refl (forward rows distinct.1)
+    where
+      by : (b : Bool) → is_job_row_at path row ≡ b
+          → ((n : Option Node) → node_behind path n (filter_map f rows) ≡ outcome_of f (find (is_job_row_at path) rows) n)
+          → node_behind path (cond b (outcome (f row) node) node) (filter_map f rows)
+          ≡ outcome_of f (cond b (Some row) (find (is_job_row_at path) rows)) node
+      by true e more =
+          more (outcome (f row) node)
+          ∙ ap (λ o. outcome_of f o (outcome (f row) node)) (none_at row.path (tied_path row.path path e) rows distinct.0)
+      by false e more = more node
+
+  backward : (rows : List JobRow) → AreDistinct rows → (node : Option Node)
+      → node_behind path node (filter_map f (reverse rows)) ≡ outcome_of f (find (is_job_row_at path) rows) node
+  backward [] distinct node = refl
+  backward (row ∷ rows) distinct node =
+      ap (node_behind path node) (found_joined rows row) ∙ behind_joined path node (filter_map f (reverse rows)) (cons_option (f row) [])
+      ∙ of_row row (node_behind path node (filter_map f (reverse rows))) [] ∙ by (is_job_row_at path row) refl (backward rows distinct.1 node)
+    where
+      by : (b : Bool) → is_job_row_at path row ≡ b
+          → node_behind path node (filter_map f (reverse rows)) ≡ outcome_of f (find (is_job_row_at path) rows) node
+          → cond b (outcome (f row) (node_behind path node (filter_map f (reverse rows)))) (node_behind path node (filter_map f (reverse rows)))
+          ≡ outcome_of f (cond b (Some row) (find (is_job_row_at path) rows)) node
+      by true e more =
+          ap (outcome (f row)) (more ∙ ap (λ o. outcome_of f o node) (none_at row.path (tied_path row.path path e) rows distinct.0))
+      by false e more = more
+
+found_at : (path : FilePath) (rows : List JobRow) (row : JobRow) → find (is_job_row_at path) rows ≡ Some row → row.path ≡ path
+found_at path [] row h = absurd cc
+found_at path (r ∷ rows) row h = by (is_job_row_at path r) refl h
+  where
+    by : (b : Bool) → is_job_row_at path r ≡ b → cond b (Some r) (find (is_job_row_at path) rows) ≡ Some row → row.path ≡ path
+    by true e h = let same : r ≡ row = cc in ap (λ (x : JobRow). x.path) (sym same) ∙ tied_path r.path path e
+    by false e h = found_at path rows row h
+
+module _ (before after : List JobRow) (path : FilePath) where
+  b : Option Node
+  b = node_in before path
+
+  a : Option Node
+  a = node_in after path
+
+  removal_path : (row : JobRow) (step : Step) → removal after row ≡ Some step → step.path ≡ row.path
+  removal_path row step h = by (is_gone after row) h
+    where
+      by : (t : Bool) → cond t (Some (record { path = row.path; before = Some row.node; after = None })) None ≡ Some step → step.path ≡ row.path
+      by true h = let same : row.path ≡ step.path = cc in sym same
+      by false h = absurd cc
+
+  putting_path : (row : JobRow) (step : Step) → putting before row ≡ Some step → step.path ≡ row.path
+  putting_path row step h = by (is_same (Some row.node) (node_in before row.path)) h
+    where
+      by : (t : Bool)
+          → cond t None (Some (record { path = row.path; before = kept_for row.node (node_in before row.path); after = Some row.node })) ≡ Some step
+          → step.path ≡ row.path
+      by true h = absurd cc
+      by false h = let same : row.path ≡ step.path = cc in sym same
+
+  removed : outcome_of (removal after) (find (is_job_row_at path) before) b ≡ cond (gone b a) None b
+  removed = by (find (is_job_row_at path) before) refl
+    where
+      by : (o : Option JobRow) → find (is_job_row_at path) before ≡ o → outcome_of (removal after) o b ≡ cond (gone b a) None b
+      by None e = let none : b ≡ None = ap (option_map (λ (row : JobRow). row.node)) e in rw none refl
+      by (Some row) e =
+          let node : b ≡ Some row.node = ap (option_map (λ (row : JobRow). row.node)) e in
+          let there : is_gone after row ≡ not (has_kind row.node a) = ap (λ p. not (has_kind row.node (node_in after p))) (found_at path before row e) in
+          ap (λ t. outcome (cond t (Some (record { path = row.path; before = Some row.node; after = None })) None) b) there
+          ∙ taken (not (has_kind row.node a)) ∙ ap (λ o. cond (gone o a) None b) (sym node)
+        where
+          taken : (t : Bool) → outcome (cond t (Some (record { path = row.path; before = Some row.node; after = None })) None) b ≡ cond t None b
+          taken true = refl
+          taken false = refl
+
+  put : outcome_of (putting before) (find (is_job_row_at path) after) (cond (gone b a) None b) ≡ a
+  put = by (find (is_job_row_at path) after) refl
+    where
+      nothing : (o : Option Node) → cond (gone o None) None o ≡ None
+      nothing None = refl
+      nothing (Some node) = refl
+
+      stays : (node : Node) → cond (gone (Some node) (Some node)) None (Some node) ≡ Some node
+      stays node = ap (λ t. cond t None (Some node)) (kind_stays node)
+
+      by : (o : Option JobRow) → find (is_job_row_at path) after ≡ o → outcome_of (putting before) o (cond (gone b a) None b) ≡ a
+      by None e =
+          let none : a ≡ None = ap (option_map (λ (row : JobRow). row.node)) e in
+          ap (λ n. cond (gone b n) None b) none ∙ nothing b ∙ sym none
+      by (Some row) e = same (is_same (Some row.node) (node_in before row.path)) refl
+        where
+          node : a ≡ Some row.node
+          node = ap (option_map (λ (row : JobRow). row.node)) e
+
+          same : (t : Bool) → is_same (Some row.node) (node_in before row.path) ≡ t
+              → outcome (cond t None (Some (record { path = row.path; before = kept_for row.node (node_in before row.path); after = Some row.node }))) (cond (gone b a) None b) ≡ a
+          same false h = sym node
+          same true h =
+              let there : b ≡ Some row.node =
+              ap (node_in before) (sym (found_at path after row e)) ∙ sym (same_is (Some row.node) (node_in before row.path) h) in
+              ap (λ n. cond (gone n a) None n) there ∙ ap (λ n. cond (gone (Some row.node) n) None (Some row.node)) node ∙ stays row.node ∙ sym node
+
+  pub lead : AreJobRows before → AreJobRows after → node_behind path b (steps before after) ≡ a
+  lead are_before are_after =
+      behind_joined path b (filter_map (removal after) (reverse before)) (filter_map (putting before) after)
+      ∙ ap (λ n. node_behind path n (filter_map (putting before) after))
+      (backward path (removal after) removal_path before (are_distinct before are_before.in_order) b ∙ removed)
+      ∙ forward path (putting before) putting_path after (are_distinct after are_after.in_order) (cond (gone b a) None b) ∙ put
+
+pub steps_lead : StepsLead
+steps_lead before after are_before are_after path = lead before after path are_before are_after

@@ -10,7 +10,7 @@ use Rattle.tree_values.specs.Tree.{is_root, is_folder_node}
 use Rattle.tree_values.specs.declared.node.Node.{Node}
 use Rattle.tree_values.specs.declared.node.Node.TheVariants.{Folder, File}
 use Rattle.cmd_capture.specs.declared.job.JobRow.{JobRow}
-use Rattle.cmd_capture.specs.Rows.{is_job_row_at, node_in, is_folder_in, IsJobRow, AreJobRows}
+use Rattle.cmd_capture.specs.Rows.{is_job_row_at, node_in, is_folder_in, IsJobRow, JobRowsAreInOrder, AreJobRows}
 use Rattle.folder_sides.specs.declared.sides.Sides.{Sides}
 use Rattle.folder_sides.specs.declared.ends.End.{End}
 use Rattle.folder_sides.specs.declared.ends.End.TheVariants.{Same, Lay, Own, Both}
@@ -60,11 +60,17 @@ merged_nodes sides are path =
     by true (Some h) l = refl
     by false h l = refl
 
-pub merged_order : (sides : Sides) → AreSides sides → AllByRecursion IsJobRow (merged sides)
-merged_order sides are =
+pub merged_each : (sides : Sides) → AreSides sides → AllByRecursion IsJobRow (merged sides)
+merged_each sides are =
     all_woven IsJobRow (filter (λ row. is_left sides row.path) sides.here) (filter (λ row. not (is_left sides row.path)) sides.logged)
     (all_filter IsJobRow (λ row. is_left sides row.path) sides.here are.here.each)
     (all_filter IsJobRow (λ row. not (is_left sides row.path)) sides.logged are.logged.each)
+
+pub merged_order : (sides : Sides) → AreSides sides → JobRowsAreInOrder (merged sides)
+merged_order sides are =
+    order_woven (filter (λ row. is_left sides row.path) sides.here) (filter (λ row. not (is_left sides row.path)) sides.logged)
+    (order_filter (λ row. is_left sides row.path) sides.here are.here.in_order)
+    (order_filter (λ row. not (is_left sides row.path)) sides.logged are.logged.in_order)
 
 module _ (sides : Sides) (are : AreSides sides) (none : HasNoConflict sides) where
   -- something stays in the folder of what is the user's own
@@ -193,11 +199,8 @@ module _ (sides : Sides) (are : AreSides sides) (none : HasNoConflict sides) whe
 
   pub merged_tree : AreJobRows (merged sides)
   merged_tree = record {
-    in_order =
-        order_woven (filter (λ row. is_left sides row.path) sides.here) (filter (λ row. not (is_left sides row.path)) sides.logged)
-        (order_filter (λ row. is_left sides row.path) sides.here are.here.in_order)
-        (order_filter (λ row. not (is_left sides row.path)) sides.logged are.logged.in_order);
-    each = merged_order sides are;
+    in_order = merged_order sides are;
+    each = merged_each sides are;
     in_folders = λ path some. by path (is_root (folder_of path)) refl (sym (ap is_some (merged_nodes sides are path)) ∙ some);
   }
     where

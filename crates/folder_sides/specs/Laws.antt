@@ -95,7 +95,7 @@ behind_lay sides = record { laid = sides.logged; here = merged sides; logged = s
 
 -- A take behind a lay logs what is the user's own.
 abbrev pub OwnIsTaken : Type 0
-OwnIsTaken = (sides : Sides) (effects : List Effect) (old new : Volume) → AreSides (behind_lay sides)
+OwnIsTaken = (sides : Sides) (effects : List Effect) (old new : Volume) → AreSides sides → AreSides (behind_lay sides)
     → IsLogged (behind_lay sides) effects old new → (path : FilePath) → is_left_out sides path ≡ false
     → end_of sides path ≡ Own → node_at new path ≡ node_in sides.here path
 

@@ -10,6 +10,10 @@ mod steps;
 mod taking;
 
 pub use ends::End;
+pub use laws::{
+    laying_goes_on, laying_merges_what_was_changed, one_behind_the_other_is_idle,
+    taking_logs_the_folder,
+};
 pub use merging::merged;
 pub use sides::{Sides, conflicts, end_of};
 pub use steps::{Step, Steps, laying};
