@@ -5,4 +5,4 @@ pub mod Trees
 pub mod Laid
 pub mod Stepping
 pub mod GoingOn
-pub mod Taken
+pub mod Takes

@@ -1,6 +1,8 @@
 -- Rows of the one among those of the other, and what stands at their paths.
 use Rattle.std.proofs.Common.{◌≡◌, Bool, true, false, not, ◌||◌, ◌&&◌, List, [], ◌∷◌, ◌++◌, filter, Option, Some, None, is_some, cond, refl, sym, ap, ◌∙◌}
-use Rattle.std.proofs.Common.{subst, true≢false}
+use Rattle.std.proofs.Common.{subst, true≢false, ℕ, ◌+◌, ◌<◌, length, take, get_or, append_assoc}
+use Rattle.std.proofs.lemmas.List.{take_more}
+use Rattle.std.proofs.lemmas.List.Elements.{filter-append}
 use Rattle.std.specs.List.{list_any, AllByRecursion}
 use Rattle.std.specs.Option.{option_or}
 use Rattle.std.specs.Ordering.{is_lt, is_gt, ordering_reverse}
@@ -269,3 +271,47 @@ same_rows (x ∷ xs) (y ∷ ys) order order' nodes = by (path_cmp x.path y.path)
         let node : x.node ≡ y.node = cc in
         ap (λ p. record { path = p; node = x.node } ∷ xs) same ∙ ap (λ n. record { path = y.path; node = n } ∷ xs) node
         ∙ ap (λ l. y ∷ l) (more (λ path. tails same path (is_same_path x.path path) refl))
+
+-- ---- one more turn of the loops
+
+pub filter_more : {X : Type 0} (t : X → Bool) (xs : List X) (i : ℕ) (x : X) → i < length xs → x ≡ get_or xs i x
+    → filter t (take (i + 1) xs) ≡ filter t (take i xs) ++ cond (t x) (x ∷ []) []
+filter_more t xs i x within read =
+    ap (filter t) (take_more xs i x within ∙ ap (λ r. take i xs ++ r ∷ []) (sym read)) ∙ filter-append t (take i xs) (x ∷ [])
+
+-- rows above a path
+all_high : (path : FilePath) (rows : List JobRow) → AllByRecursion (λ next. path_cmp path next.path ≡ Less) rows
+    → (below path rows ≡ []) × (above path rows ≡ rows)
+all_high path [] all = (refl, refl)
+all_high path (row ∷ rows) all =
+    let more = all_high path rows all.1 in
+    let high : path_cmp row.path path ≡ Greater = paths_total.antisymm row.path path ∙ ap ordering_reverse all.0 in
+    (rw high more.0, rw high (ap (λ l. row ∷ l) more.1))
+
+pub passed_below : (path : FilePath) (row : JobRow) (rows : List JobRow) → path_cmp row.path path ≡ Less
+    → (below path (row ∷ rows) ≡ row ∷ below path rows) × (above path (row ∷ rows) ≡ above path rows)
+passed_below path row rows low = (rw low refl, rw low refl)
+
+pub stopped_at : (path : FilePath) (row : JobRow) (rows : List JobRow) → JobRowsAreInOrder (row ∷ rows) → path_cmp row.path path ≡ Equal
+    → (below path (row ∷ rows) ≡ []) × (above path (row ∷ rows) ≡ rows)
+stopped_at path row rows order at =
+    let same = same_path row.path path at in
+    let high = all_high path rows (subst (λ p. AllByRecursion (λ next. path_cmp p next.path ≡ Less) rows) same order.0) in
+    (rw at high.0, rw at high.1)
+
+pub stopped_above : (path : FilePath) (row : JobRow) (rows : List JobRow) → JobRowsAreInOrder (row ∷ rows) → path_cmp row.path path ≡ Greater
+    → (below path (row ∷ rows) ≡ []) × (above path (row ∷ rows) ≡ row ∷ rows)
+stopped_above path row rows order high =
+    let low : path_cmp path row.path ≡ Less = paths_total.antisymm path row.path ∙ ap ordering_reverse high in
+    all_high path (row ∷ rows) (
+      low,
+      all_map (λ next. path_cmp row.path next.path ≡ Less) (λ next. path_cmp path next.path ≡ Less)
+          (λ next more. paths_total.trans path row.path next.path low more) rows order.0,
+    )
+
+-- one row, with those of the others below it
+pub woven_more : (made : List JobRow) (row : JobRow) (rows others : List JobRow) (whole : List JobRow) → made ++ woven (row ∷ rows) others ≡ whole
+    → ((made ++ below row.path others) ++ row ∷ []) ++ woven rows (above row.path others) ≡ whole
+woven_more made row rows others whole so_far =
+    append_assoc (made ++ below row.path others) (row ∷ []) (woven rows (above row.path others))
+    ∙ append_assoc made (below row.path others) (row ∷ woven rows (above row.path others)) ∙ so_far

@@ -2,5 +2,4 @@ pub mod Sides
 pub mod Merging
 pub mod Steps
 pub mod Taking
-pub mod Inside
 pub mod Laws

@@ -74,6 +74,16 @@ fn push_below<'a>(
     Ok(rest)
 }
 
+/// Adds all these rows.
+fn push_all(rows: &mut JobRows, others: &[JobRow]) -> Result<(), AllocError>
+    ensures { OnOk result (rows.new ≡ rows.old ++ others.now) }
+{
+    for other in others {
+        rows.push(other.copy()?)?;
+    }
+    Ok(())
+}
+
 /// The rows of the one, and those of the other at other paths, in the order of the paths.
 pub(crate) fn woven(
     alloc: Global,
@@ -84,15 +94,14 @@ pub(crate) fn woven(
     ensures { IfOk result (λ made. made ≡ rules.woven rows.now others.now) }
 {
     let mut made = JobRows::new(alloc);
-    let (mut left, mut rest) = (rows, others);
+    let mut left = rows;
+    let mut rest = others;
     while let Some((row, more)) = left.split_first() {
         rest = push_below(&mut made, rest, &row.path)?;
         made.push(row.copy()?)?;
         left = more;
     }
-    for other in rest {
-        made.push(other.copy()?)?;
-    }
+    push_all(&mut made, rest)?;
     Ok(made)
 }
 

@@ -82,16 +82,17 @@ pub(crate) fn is_same(node: Option<&Node>, other: Option<&Node>) -> bool
 pub(crate) fn are_same_rows(rows: &[JobRow], others: &[JobRow]) -> bool
     ensures { result ≡ are_same_rows rows.now others.now }
 {
-    let (mut rows, mut others) = (rows, others);
-    while let Some((row, more)) = rows.split_first() {
-        let Some((other, rest)) = others.split_first() else {
+    let mut left = rows;
+    let mut rest = others;
+    while let Some((row, more)) = left.split_first() {
+        let Some((other, behind)) = rest.split_first() else {
             return false;
         };
         if row.path != other.path || !is_same_node(&row.node, &other.node) {
             return false;
         }
-        rows = more;
-        others = rest;
+        left = more;
+        rest = behind;
     }
-    others.is_empty()
+    rest.is_empty()
 }

@@ -1,4 +1,4 @@
-use Rattle.folder_sides.proofs.Taken.{own_taken, lay_idle, take_idle}
+use Rattle.folder_sides.proofs.Takes.{own_taken, lay_idle, take_idle}
 use Rattle.folder_sides.proofs.laws.one_behind_the_other_is_idle.Goals as goal
 
 pub returns-clause-own : goal.returns-clause-own

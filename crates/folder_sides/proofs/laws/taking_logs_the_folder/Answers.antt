@@ -1,4 +1,4 @@
-use Rattle.folder_sides.proofs.Taken.{taken_was_laid, taken_is, taken_spares}
+use Rattle.folder_sides.proofs.Takes.{taken_was_laid, taken_is, taken_spares}
 use Rattle.folder_sides.proofs.laws.taking_logs_the_folder.Goals as goal
 
 pub returns-clause-laid : goal.returns-clause-laid

@@ -1,1 +1,0 @@
--- Words that only the contracts of private functions cite.
