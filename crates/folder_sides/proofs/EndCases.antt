@@ -126,16 +126,16 @@ unless_both true e w h unlike = absurd (unlike (sym h))
 unless_both false e w h unlike = h
 
 module _ (sides : Sides) (path : FilePath) where
-  here : Option Node
+  abbrev here : Option Node
   here = node_in sides.here path
 
-  logged : Option Node
+  abbrev logged : Option Node
   logged = node_in sides.logged path
 
-  within : End
+  abbrev within : End
   within = end_within (end_alone sides path) (stays_in sides path) (comes_in sides path) here logged
 
-  in_the_way : Bool
+  abbrev in_the_way : Bool
   in_the_way = is_taken sides path && is_some logged
 
   pub same_end : end_of sides path ≡ Same → end_alone sides path ≡ Same

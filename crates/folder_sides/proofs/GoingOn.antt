@@ -93,20 +93,20 @@ any_found t all (row ∷ rows) found h = by (t row.path) refl h
     by false e h = any_found t all rows found.1 h
 
 module _ (sides : Sides) (count : ℕ) (rows : List JobRow) (are : AreSides sides) (none : HasNoConflict sides) (stopped : IsStopped sides count rows) where
-  now : Sides
+  abbrev now : Sides
   now = with_here sides rows
 
   module _ (path : FilePath) where
-    laid : Option Node
+    abbrev laid : Option Node
     laid = node_in sides.laid path
 
-    here : Option Node
+    abbrev here : Option Node
     here = node_in sides.here path
 
-    logged : Option Node
+    abbrev logged : Option Node
     logged = node_in sides.logged path
 
-    there : Option Node
+    abbrev there : Option Node
     there = node_in rows path
 
     fine : IsBetween sides.here (merged sides) path there
@@ -239,7 +239,7 @@ module _ (sides : Sides) (count : ℕ) (rows : List JobRow) (are : AreSides side
   found_now = are_found rows (are_distinct rows stopped.are.here.in_order)
 
   module _ (path : FilePath) where
-    odd : Bool
+    abbrev odd : Bool
     odd = list_any (λ other. is_below other path) sides.beside
 
     own_was : list_any (λ row. is_own_below now path row.path) rows ≡ true → list_any (λ row. is_own_below sides path row.path) sides.here ≡ true
@@ -320,11 +320,13 @@ module _ (sides : Sides) (count : ℕ) (rows : List JobRow) (are : AreSides side
 
     -- ---- what becomes of the path now
 
-    clear : is_taken sides path && is_some (logged path) ≡ false
-    clear = not_true (is_taken sides path && is_some (logged path)) (λ t. true≢false (sym (ap (λ b. is_both (cond b Both (within_before))) t) ∙ none path))
-      where
-        within_before : End
-        within_before = end_within (end_alone sides path) (stays_in sides path) (comes_in sides path) (here path) (logged path)
+    abbrev within_before : End
+    within_before = end_within (end_alone sides path) (stays_in sides path) (comes_in sides path) (here path) (logged path)
+
+    clear : (is_taken sides path && is_some (logged path)) ≡ false
+    clear =
+        not_true (is_taken sides path && is_some (logged path))
+        (λ t. true≢false (sym (ap (λ b. is_both (cond b Both within_before)) t) ∙ none path))
 
     end_is : end_of now path ≡ end_within (end_alone now path) (stays_in now path) (comes_in now path) (there path) (logged path)
     end_is = ap (λ b. cond b Both (end_within (end_alone now path) (stays_in now path) (comes_in now path) (there path) (logged path))) clear

@@ -23,13 +23,13 @@ pub are_a_tree : SidesAreATree
 are_a_tree sides are none = merged_tree sides are none
 
 module _ (sides : Sides) (are : AreSides sides) (none : HasNoConflict sides) (path : FilePath) where
-  here : Option Node
+  abbrev here : Option Node
   here = node_in sides.here path
 
-  laid : Option Node
+  abbrev laid : Option Node
   laid = node_in sides.laid path
 
-  logged : Option Node
+  abbrev logged : Option Node
   logged = node_in sides.logged path
 
   left_there : end_of sides path ≡ Own → node_in (merged sides) path ≡ here

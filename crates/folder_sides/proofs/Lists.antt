@@ -1,10 +1,12 @@
 -- Rows of the one among those of the other, and what stands at their paths.
 use Rattle.std.proofs.Common.{◌≡◌, Bool, true, false, not, ◌||◌, ◌&&◌, List, [], ◌∷◌, ◌++◌, filter, Option, Some, None, is_some, cond, refl, sym, ap, ◌∙◌}
-use Rattle.std.proofs.Common.{subst, true≢false, ℕ, ◌+◌, ◌<◌, length, take, get_or, append_assoc}
+use Rattle.std.proofs.Common.{subst, true≢false, ℕ, ◌+◌, ◌<◌, length, take, get_or, append_assoc, append-nil}
+use Rattle.std.proofs.Common.{Result, Ok, Err, IfOk}
 use Rattle.std.proofs.lemmas.List.{take_more}
 use Rattle.std.proofs.lemmas.List.Elements.{filter-append}
 use Rattle.std.specs.List.{list_any, AllByRecursion}
-use Rattle.std.specs.Option.{option_or}
+use Rattle.std.specs.Option.{option_or, option_to_list}
+use Rattle.std.specs.declared.alloc.AllocError.{AllocError}
 use Rattle.std.specs.Ordering.{is_lt, is_gt, ordering_reverse}
 use Rattle.std.specs.declared.cmp.Ordering.{Ordering}
 use Rattle.std.specs.declared.cmp.Ordering.TheVariants.{Less, Equal, Greater}
@@ -14,7 +16,7 @@ use Rattle.file_paths.proofs.Order.{paths_total, paths_differ, paths_apart, tied
 use Rattle.tree_values.proofs.Ordered.{is_greater}
 use Rattle.tree_values.specs.declared.node.Node.{Node}
 use Rattle.cmd_capture.specs.declared.job.JobRow.{JobRow}
-use Rattle.cmd_capture.specs.Rows.{is_job_row_at, node_in, JobRowsAreInOrder}
+use Rattle.cmd_capture.specs.Rows.{is_job_row_at, node_in, JobRowsAreInOrder, AreJobRows}
 use Rattle.work_area.proofs.Applying.{all_map}
 use Rattle.folder_sides.specs.Merging.{woven}
 
@@ -274,10 +276,15 @@ same_rows (x ∷ xs) (y ∷ ys) order order' nodes = by (path_cmp x.path y.path)
 
 -- ---- one more turn of the loops
 
-pub filter_more : {X : Type 0} (t : X → Bool) (xs : List X) (i : ℕ) (x : X) → i < length xs → x ≡ get_or xs i x
-    → filter t (take (i + 1) xs) ≡ filter t (take i xs) ++ cond (t x) (x ∷ []) []
+pub filter_more : (t : JobRow → Bool) (xs : List JobRow) (i : ℕ) (x : JobRow) → i < length xs → x ≡ get_or xs i x
+    → filter t (take (i + 1) xs) ≡ filter t (take i xs) ++ option_to_list (cond (t x) (Some x) None)
 filter_more t xs i x within read =
     ap (filter t) (take_more xs i x within ∙ ap (λ r. take i xs ++ r ∷ []) (sym read)) ∙ filter-append t (take i xs) (x ∷ [])
+    ∙ ap (λ l. filter t (take i xs) ++ l) (by (t x))
+  where
+    by : (b : Bool) → cond b (x ∷ []) [] ≡ option_to_list (cond b (Some x) None)
+    by true = refl
+    by false = refl
 
 -- rows above a path
 all_high : (path : FilePath) (rows : List JobRow) → AllByRecursion (λ next. path_cmp path next.path ≡ Less) rows
@@ -315,3 +322,36 @@ pub woven_more : (made : List JobRow) (row : JobRow) (rows others : List JobRow)
 woven_more made row rows others whole so_far =
     append_assoc (made ++ below row.path others) (row ∷ []) (woven rows (above row.path others))
     ∙ append_assoc made (below row.path others) (row ∷ woven rows (above row.path others)) ∙ so_far
+
+-- the loop over the others ends at the path
+pub stops_equal : (path : FilePath) (made whole high rest : List JobRow) (row : JobRow) (more : List JobRow) → rest ≡ row ∷ more
+    → (made ++ below path rest ≡ whole) × (above path rest ≡ high) × JobRowsAreInOrder rest → path_cmp row.path path ≡ Equal
+    → (made ≡ whole) × (more ≡ high)
+stops_equal path made whole high rest row more split invariant at =
+    let stop = stopped_at path row more (subst JobRowsAreInOrder split invariant.1.1) at in (
+      sym (append-nil made) ∙ ap (λ l. made ++ l) (sym (ap (below path) split ∙ stop.0)) ∙ invariant.0,
+      sym (ap (above path) split ∙ stop.1) ∙ invariant.1.0,
+    )
+
+-- and above it
+pub stops_greater : (path : FilePath) (made whole high rest : List JobRow) (row : JobRow) (more : List JobRow) → rest ≡ row ∷ more
+    → (made ++ below path rest ≡ whole) × (above path rest ≡ high) × JobRowsAreInOrder rest → path_cmp row.path path ≡ Greater
+    → (made ≡ whole) × (rest ≡ high)
+stops_greater path made whole high rest row more split invariant at =
+    let stop = stopped_above path row more (subst JobRowsAreInOrder split invariant.1.1) at in (
+      sym (append-nil made) ∙ ap (λ l. made ++ l) (sym (ap (below path) split ∙ stop.0)) ∙ invariant.0,
+      invariant.1.0,
+    )
+
+-- one more turn of the loop over the rows
+pub woven_turn : (made rows others whole below_it with_it rest left : List JobRow) (row copy : JobRow) → made ++ woven left others ≡ whole
+    → left ≡ row ∷ rows → below_it ≡ made ++ below row.path others → rest ≡ above row.path others → with_it ≡ below_it ++ copy ∷ [] → copy ≡ row
+    → with_it ++ woven rows rest ≡ whole
+woven_turn made rows others whole below_it with_it rest left row copy so_far split low high pushed same =
+    ap (λ m. m ++ woven rows rest) (pushed ∙ ap (λ c. below_it ++ c ∷ []) same ∙ ap (λ m. m ++ row ∷ []) low)
+    ∙ ap (λ r. ((made ++ below row.path others) ++ row ∷ []) ++ woven rows r) high
+    ∙ woven_more made row rows others whole (ap (λ l. made ++ woven l others) (sym split) ∙ so_far)
+
+pub if_rows : (r : Result (List JobRow) AllocError) (rows : List JobRow) → IfOk r (λ made. made ≡ rows) → AreJobRows rows → IfOk r AreJobRows
+if_rows (Ok made) rows same are = subst AreJobRows (sym same) are
+if_rows (Err e) rows same are = tt

@@ -192,10 +192,10 @@ found_at path (r ∷ rows) row h = by (is_job_row_at path r) refl h
     by false e h = found_at path rows row h
 
 module _ (before after : List JobRow) (path : FilePath) where
-  b : Option Node
+  abbrev b : Option Node
   b = node_in before path
 
-  a : Option Node
+  abbrev a : Option Node
   a = node_in after path
 
   removal_path : (row : JobRow) (step : Step) → removal after row ≡ Some step → step.path ≡ row.path

@@ -73,6 +73,12 @@ merged_order sides are =
     (order_filter (λ row. not (is_left sides row.path)) sides.logged are.logged.in_order)
 
 module _ (sides : Sides) (are : AreSides sides) (none : HasNoConflict sides) where
+  abbrev own_there : FilePath → Bool
+  own_there folder = list_any (λ row. is_own_below sides folder row.path) sides.here
+
+  abbrev odd_there : FilePath → Bool
+  odd_there folder = list_any (λ other. is_below other folder) sides.beside
+
   -- something stays in the folder of what is the user's own
   stays_above : (path : FilePath) → is_root path ≡ false → node_in sides.here (folder_of path) ≡ Some Folder
       → is_some (node_in sides.here path) ≡ true → end_of sides path ≡ Own → stays_in sides (folder_of path) ≡ true
@@ -84,12 +90,6 @@ module _ (sides : Sides) (are : AreSides sides) (none : HasNoConflict sides) whe
         | inr e ↦ inside (and_of (is_folder_node (node_in sides.here path)) _ e.1.0).1
       ])
     where
-      own_there : FilePath → Bool
-      own_there folder = list_any (λ row. is_own_below sides folder row.path) sides.here
-
-      odd_there : FilePath → Bool
-      odd_there folder = list_any (λ other. is_below other folder) sides.beside
-
       first : own_there (folder_of path) ≡ true → (own_there (folder_of path) || odd_there (folder_of path)) ≡ true
       first h = ap (λ b. b || odd_there (folder_of path)) h
 

@@ -7,6 +7,7 @@ ghost use Rattle.folder_sides.specs.Merging as rules;
 ghost use Rattle.folder_sides.specs.Sides.{AreSides, conflicts};
 
 use crate::ends::End;
+use crate::rows::row_if;
 use crate::sides::{Sides, end_of};
 use cmd_capture::{JobRow, JobRows};
 use std::alloc::{AllocError, Global};
@@ -31,9 +32,7 @@ fn rows_left(alloc: Global, sides: &Sides) -> Result<JobRows, AllocError>
 {
     let mut rows = JobRows::new(alloc);
     for row in sides.here.as_slice() {
-        if is_left(sides, &row.path) {
-            rows.push(row.copy()?)?;
-        }
+        rows.push_found(row_if(is_left(sides, &row.path), row)?)?;
     }
     Ok(rows)
 }
@@ -45,9 +44,7 @@ fn rows_laid(alloc: Global, sides: &Sides) -> Result<JobRows, AllocError>
 {
     let mut rows = JobRows::new(alloc);
     for row in sides.logged.as_slice() {
-        if !is_left(sides, &row.path) {
-            rows.push(row.copy()?)?;
-        }
+        rows.push_found(row_if(!is_left(sides, &row.path), row)?)?;
     }
     Ok(rows)
 }

@@ -1,7 +1,7 @@
 // What stands at a path, and whether two nodes are one.
-ghost use Rattle.std.specs.Prelude.{◌≡◌, find};
+ghost use Rattle.std.specs.Prelude.{◌≡◌, ◌&&◌, cond, Some, None, find, IfOk};
 ghost use Rattle.std.specs.Option.{option_copied};
-ghost use Rattle.file_paths.specs.Path.{path_cmp};
+ghost use Rattle.file_paths.specs.Path.{path_cmp, is_same_path};
 ghost use Rattle.cmd_capture.specs.Rows as rules;
 ghost use Rattle.cmd_capture.specs.Rows.{JobRowsAreInOrder};
 ghost use Rattle.work_area.specs.Changes.{has_kind};
@@ -9,8 +9,9 @@ ghost use Rattle.folder_sides.specs.Sides.{is_same_node, is_same};
 ghost use Rattle.folder_sides.specs.Taking.{are_same_rows};
 
 use cmd_capture::JobRow;
+use std::alloc::AllocError;
 use std::cmp::Ordering;
-use vol_tree::{Content, Node};
+use vol_tree::{Content, Node, TryCopy};
 
 /// How the path of a row compares with another.
 fn order_of(row: &JobRow, path: &[Content]) -> Ordering
@@ -78,6 +79,23 @@ pub(crate) fn is_same(node: Option<&Node>, other: Option<&Node>) -> bool
     }
 }
 
+/// Whether the two rows have one node at one path.
+fn is_same_row(row: &JobRow, other: &JobRow) -> bool
+    ensures { result ≡ (is_same_path row.now.path other.now.path && is_same_node row.now.node other.now.node) }
+{
+    row.path.cmp(&other.path).is_eq() && is_same_node(&row.node, &other.node)
+}
+
+/// A copy of the row, where it is kept.
+pub(crate) fn row_if(is_kept: bool, row: &JobRow) -> Result<Option<JobRow>, AllocError>
+    ensures { IfOk result (λ found. found ≡ cond is_kept (Some row.now) None) }
+{
+    if !is_kept {
+        return Ok(None);
+    }
+    Ok(Some(row.copy()?))
+}
+
 /// Whether the rows have the same nodes at the same paths.
 pub(crate) fn are_same_rows(rows: &[JobRow], others: &[JobRow]) -> bool
     ensures { result ≡ are_same_rows rows.now others.now }
@@ -88,7 +106,7 @@ pub(crate) fn are_same_rows(rows: &[JobRow], others: &[JobRow]) -> bool
         let Some((other, behind)) = rest.split_first() else {
             return false;
         };
-        if row.path != other.path || !is_same_node(&row.node, &other.node) {
+        if !is_same_row(row, other) {
             return false;
         }
         left = more;

@@ -1,6 +1,10 @@
 // Three sides of a folder.
 ghost use Rattle.std.specs.Prelude.{◌≡◌, cond, Some, None, IfOk, OnOk};
+ghost use Rattle.std.specs.List.{list_any};
 ghost use Rattle.std.specs.Option.{option_copied};
+ghost use Rattle.file_paths.specs.Path as paths;
+ghost use Rattle.tree_values.specs.Tree.{is_folder_node};
+ghost use Rattle.cmd_capture.specs.Rows as rows;
 ghost use Rattle.folder_sides.specs.Sides as rules;
 ghost use Rattle.folder_sides.specs.Sides.{AreSides};
 
@@ -76,27 +80,46 @@ fn is_laid_below(sides: &Sides, folder: &Path, path: &Path) -> bool
     is_below(path, folder) && matches!(end_alone(sides, path), End::Lay)
 }
 
+/// Whether a folder stands there.
+fn is_folder(node: Option<&Node>) -> bool
+    ensures { result ≡ is_folder_node (option_copied node.entry) }
+{
+    matches!(node, Some(Node::Folder))
+}
+
+/// Whether the user has something of his own below the path.
+fn has_own_below(sides: &Sides, path: &Path) -> bool
+    requires { AreSides sides.now }
+    ensures { result ≡ list_any (λ row. rules.is_own_below sides.now path.now row.path) sides.now.here }
+{
+    let rows = sides.here.as_slice();
+    rows.iter().any(|row| is_own_below(sides, path, &row.path))
+}
+
+/// Whether something that has no row stands below the path.
+fn has_other_below(sides: &Sides, path: &Path) -> bool
+    ensures { result ≡ list_any (λ other. rules.is_below other path.now) sides.now.beside }
+{
+    let others = sides.beside.as_slice();
+    others.iter().any(|other| is_below(other, path))
+}
+
+/// Whether others have something that is to be laid below the path.
+fn has_laid_below(sides: &Sides, path: &Path) -> bool
+    requires { AreSides sides.now }
+    ensures { result ≡ list_any (λ row. rules.is_laid_below sides.now path.now row.path) sides.now.logged }
+{
+    let rows = sides.logged.as_slice();
+    rows.iter().any(|row| is_laid_below(sides, path, &row.path))
+}
+
 /// Whether it is a folder here, with something in it that is the user's own or has no row.
 fn stays_in(sides: &Sides, path: &Path) -> bool
     requires { AreSides sides.now }
     ensures { result ≡ rules.stays_in sides.now path.now }
 {
-    if !matches!(
-        node_in(sides.here.as_slice(), path.names()),
-        Some(Node::Folder)
-    ) {
-        return false;
-    }
-    sides
-        .here
-        .as_slice()
-        .iter()
-        .any(|row| is_own_below(sides, path, &row.path))
-        || sides
-            .beside
-            .as_slice()
-            .iter()
-            .any(|other| is_below(other, path))
+    is_folder(node_in(sides.here.as_slice(), path.names()))
+        && (has_own_below(sides, path) || has_other_below(sides, path))
 }
 
 /// Whether it is a folder of the log, with something in it that is to be laid.
@@ -104,31 +127,29 @@ fn comes_in(sides: &Sides, path: &Path) -> bool
     requires { AreSides sides.now }
     ensures { result ≡ rules.comes_in sides.now path.now }
 {
-    if !matches!(
-        node_in(sides.logged.as_slice(), path.names()),
-        Some(Node::Folder)
-    ) {
-        return false;
-    }
-    sides
-        .logged
-        .as_slice()
-        .iter()
-        .any(|row| is_laid_below(sides, path, &row.path))
+    is_folder(node_in(sides.logged.as_slice(), path.names())) && has_laid_below(sides, path)
+}
+
+/// Whether the two paths are one.
+fn is_same_path(other: &Path, path: &Path) -> bool
+    ensures { result ≡ paths.is_same_path other.now path.now }
+{
+    other.cmp(path).is_eq()
 }
 
 /// Whether something that has no row stands there.
 fn is_taken(sides: &Sides, path: &Path) -> bool
     ensures { result ≡ rules.is_taken sides.now path.now }
 {
-    sides.beside.as_slice().iter().any(|other| other == path)
+    let others = sides.beside.as_slice();
+    others.iter().any(|other| is_same_path(other, path))
 }
 
 /// What becomes of a path where nothing stands that has no row.
 fn end_within(sides: &Sides, path: &Path) -> End
     requires { AreSides sides.now }
     ensures { result ≡ rules.end_within (rules.end_alone sides.now path.now) (rules.stays_in sides.now path.now) (rules.comes_in sides.now path.now)
-        (rules.node_in sides.now.here path.now) (rules.node_in sides.now.logged path.now) }
+        (rows.node_in sides.now.here path.now) (rows.node_in sides.now.logged path.now) }
 {
     match end_alone(sides, path) {
         End::Lay if stays_in(sides, path) => {

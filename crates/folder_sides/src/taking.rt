@@ -6,12 +6,12 @@ ghost use Rattle.folder_sides.specs.Taking as rules;
 ghost use Rattle.folder_sides.specs.declared.taking.TakeError.TheVariants.{Memory};
 
 use crate::merging::woven;
-use crate::rows::are_same_rows;
+use crate::rows::{are_same_rows, row_if};
 use crate::sides::Sides;
 use cmd_capture::JobRows;
 use std::alloc::{AllocError, Global};
 use thiserror::Error;
-use vol_tree::{Effects, Path, TryCopy};
+use vol_tree::{Effects, Path};
 use work_area::changes;
 
 /// Why a folder's changes are not logged.
@@ -49,9 +49,7 @@ fn rows_here(alloc: Global, sides: &Sides) -> Result<JobRows, AllocError>
 {
     let mut rows = JobRows::new(alloc);
     for row in sides.here.as_slice() {
-        if !is_left_out(sides, &row.path) {
-            rows.push(row.copy()?)?;
-        }
+        rows.push_found(row_if(!is_left_out(sides, &row.path), row)?)?;
     }
     Ok(rows)
 }
@@ -62,9 +60,7 @@ fn rows_left_out(alloc: Global, sides: &Sides) -> Result<JobRows, AllocError>
 {
     let mut rows = JobRows::new(alloc);
     for row in sides.logged.as_slice() {
-        if is_left_out(sides, &row.path) {
-            rows.push(row.copy()?)?;
-        }
+        rows.push_found(row_if(is_left_out(sides, &row.path), row)?)?;
     }
     Ok(rows)
 }
