@@ -172,7 +172,7 @@ module _ (sides : Sides) (count : ℕ) (rows : List JobRow) (are : AreSides side
         as_here e = (sym (alone_as e) ∙ own, sym (ap is_some e) ∙ some)
 
         as_logged : there ≡ logged → (end_alone sides path ≡ Own) × (is_some here ≡ true)
-        as_logged e = let same = sym (alone_laid e) ∙ own in absurd cc
+        as_logged e = absurd (true≢false (sym (ap is_own (sym (alone_laid e) ∙ own))))
 
         by : (e : End) → end_of sides path ≡ e → (end_alone sides path ≡ Own) × (is_some here ≡ true)
         by Same e = as_logged (same_there e)
@@ -194,7 +194,7 @@ module _ (sides : Sides) (count : ℕ) (rows : List JobRow) (are : AreSides side
         as_here e = sym (alone_as e) ∙ lay
 
         as_logged : there ≡ logged → end_alone sides path ≡ Lay
-        as_logged e = let same = sym (alone_laid e) ∙ lay in absurd cc
+        as_logged e = absurd (true≢false (sym (ap is_lay (sym (alone_laid e) ∙ lay))))
 
         by : (e : End) → end_of sides path ≡ e → end_alone sides path ≡ Lay
         by Same e = as_logged (same_there e)
@@ -220,10 +220,10 @@ module _ (sides : Sides) (count : ℕ) (rows : List JobRow) (are : AreSides side
 
         by : (e : End) → end_of sides path ≡ e → (is_some there ≡ true) × (end_alone now path ≡ Own)
         by Own e = as_here (own_there e)
-        by Same e = let same = sym (same_end sides path e) ∙ own in absurd cc
+        by Same e = absurd (true≢false (sym (ap is_own (sym (same_end sides path e) ∙ own))))
         by Both e = absurd (not_both sides path (none path) e)
         by Lay e = elim (lay_end sides path e) [
-          | inl l ↦ let same = sym l.0 ∙ own in absurd cc
+          | inl l ↦ absurd (true≢false (sym (ap is_own (sym l.0 ∙ own))))
           | inr l ↦ absurd (true≢false (sym some ∙ ap is_some l.1.1))
         ]
 
@@ -335,7 +335,7 @@ module _ (sides : Sides) (count : ℕ) (rows : List JobRow) (are : AreSides side
     GoesOn = (is_conflict now path ≡ false) × (picked now path ≡ picked sides path)
 
     by_end : (e : End) → end_of now path ≡ e → is_both e ≡ false → cond (stays e) (there path) (logged path) ≡ picked sides path → GoesOn
-    by_end e is not same = (ap is_both is ∙ not, ap (λ x. cond (stays x) (there path) (logged path)) is ∙ same)
+    by_end e is single same = (ap is_both is ∙ single, ap (λ x. cond (stays x) (there path) (logged path)) is ∙ same)
 
     picked_by : (e : End) → end_of sides path ≡ e → cond (stays e) (here path) (logged path) ≡ picked sides path
     picked_by e is = ap (λ x. cond (stays x) (here path) (logged path)) (sym is)

@@ -13,7 +13,7 @@ use Rattle.cmd_capture.specs.Rows.{is_job_row_at, node_in}
 use Rattle.folder_sides.specs.declared.sides.Sides.{Sides}
 use Rattle.folder_sides.specs.declared.ends.End.{End}
 use Rattle.folder_sides.specs.declared.ends.End.TheVariants.{Same, Lay, Own, Both}
-use Rattle.folder_sides.specs.Sides.{AreSides, end_by, end_alone, end_within, end_of, is_both, is_conflict, conflict_at, conflicts, is_taken, stays_in, comes_in, HasNoConflict}
+use Rattle.folder_sides.specs.Sides.{AreSides, is_same, end_by, end_alone, end_within, end_of, is_both, is_conflict, conflict_at, conflicts, is_taken, stays_in, comes_in, HasNoConflict}
 use Rattle.folder_sides.specs.Merging.{stays, is_left, picked, merged}
 use Rattle.folder_sides.specs.Laws.{ConflictsAreTold, SidesAreATree, LaidIsTheTree, NothingIsLost, NothingIsTakenBack}
 use Rattle.folder_sides.proofs.EndCases.{same_end, lay_end, own_end_of, not_both, same_by, lay_by, own_by}
@@ -36,7 +36,7 @@ module _ (sides : Sides) (are : AreSides sides) (none : HasNoConflict sides) (pa
   left_there e = merged_nodes sides are path ∙ ap (λ b. cond b here logged) (ap stays e)
 
   laid_there : (e : End) → end_of sides path ≡ e → stays e ≡ false → node_in (merged sides) path ≡ logged
-  laid_there e is not = merged_nodes sides are path ∙ ap (λ b. cond b here logged) (ap stays is ∙ not)
+  laid_there e is gone = merged_nodes sides are path ∙ ap (λ b. cond b here logged) (ap stays is ∙ gone)
 
   laid_is_by : (e : End) → end_of sides path ≡ e
       → (node_in (merged sides) path ≡ logged) ⊎ ((end_of sides path ≡ Own) × (node_in (merged sides) path ≡ here))
@@ -132,9 +132,6 @@ module _ (sides : Sides) where
   some_folder (Some node) h = refl
 
   module _ (path : FilePath) where
-    nothing_here : Option Node → Type 0
-    nothing_here o = is_some o ≡ false
-
     both_alone : (laid here logged : Option Node) → is_some here ≡ false → end_by laid here logged ≡ Both → ⊥
     both_alone laid here logged none h = by (is_same here logged) (is_same here laid) (is_same logged laid) (not (is_some here)) (not (is_some logged)) (ap not none) h
       where

@@ -163,7 +163,7 @@ taken_parts sides effects h = by (are_same_rows sides.laid sides.logged) refl h
     by : (b : Bool) → are_same_rows sides.laid sides.logged ≡ b
         → unless_refused (when (not b) NotLaid ∷ []) (changes sides.logged (standing sides)) ≡ Ok effects
         → (are_same_rows sides.laid sides.logged ≡ true) × (changes sides.logged (standing sides) ≡ effects)
-    by true e h = (e, cc h)
+    by true e h = let same : changes sides.logged (standing sides) ≡ effects = cc in (e, same)
     by false e h = absurd cc
 
 pub taken_was_laid : TakesAreOfWhatWasLaid
@@ -211,8 +211,8 @@ nothing_to_do rows are =
   where
     not_removed : (row : JobRow) → node_in rows row.path ≡ Some row.node → removal rows row ≡ None
     not_removed row found =
-        let stays : is_gone rows row ≡ false = ap (λ o. not (has_kind row.node o)) found ∙ kind_stays row.node in
-        rw stays refl
+        let kept : is_gone rows row ≡ false = ap (λ o. not (has_kind row.node o)) found ∙ kind_stays row.node in
+        rw kept refl
 
     not_put : (row : JobRow) → node_in rows row.path ≡ Some row.node → putting rows row ≡ None
     not_put row found =

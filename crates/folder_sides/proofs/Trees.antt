@@ -83,7 +83,7 @@ module _ (sides : Sides) (are : AreSides sides) (none : HasNoConflict sides) whe
   stays_above : (path : FilePath) → is_root path ≡ false → node_in sides.here (folder_of path) ≡ Some Folder
       → is_some (node_in sides.here path) ≡ true → end_of sides path ≡ Own → stays_in sides (folder_of path) ≡ true
   stays_above path low folder some own =
-      and_holds (is_folder_node (node_in sides.here (folder_of path))) _ (ap is_folder_node folder) (elim (own_end_of sides path own) [
+      and_holds (is_folder_node (node_in sides.here (folder_of path))) (own_there (folder_of path) || odd_there (folder_of path)) (ap is_folder_node folder) (elim (own_end_of sides path own) [
         | inl e ↦ first
             (any_there (is_own_below sides (folder_of path)) sides.here path some
             (and_holds (is_below path (folder_of path)) (is_own (end_alone sides path)) (own_below path low) (ap is_own e.0)))
@@ -110,7 +110,7 @@ module _ (sides : Sides) (are : AreSides sides) (none : HasNoConflict sides) whe
   comes_above : (path : FilePath) → is_root path ≡ false → node_in sides.logged (folder_of path) ≡ Some Folder
       → is_some (node_in sides.logged path) ≡ true → end_of sides path ≡ Lay → comes_in sides (folder_of path) ≡ true
   comes_above path low folder some lay =
-      and_holds (is_folder_node (node_in sides.logged (folder_of path))) _ (ap is_folder_node folder) (elim (lay_end sides path lay) [
+      and_holds (is_folder_node (node_in sides.logged (folder_of path))) (list_any (λ row. is_laid_below sides (folder_of path) row.path) sides.logged) (ap is_folder_node folder) (elim (lay_end sides path lay) [
         | inl e ↦ any_there (is_laid_below sides (folder_of path)) sides.logged path some
             (and_holds (is_below path (folder_of path)) (is_lay (end_alone sides path)) (own_below path low) (ap is_lay e.0))
         | inr e ↦ any_more (λ row. is_laid_below sides path row.path) (λ row. is_laid_below sides (folder_of path) row.path)
@@ -168,7 +168,7 @@ module _ (sides : Sides) (are : AreSides sides) (none : HasNoConflict sides) whe
 
       own_alone : end_alone sides (folder_of path) ≡ Own → comes_in sides (folder_of path) ≡ false → ⊥
       own_alone own comes = elim end [
-        | inl e ↦ let same = sym (same_above e) ∙ own in absurd cc
+        | inl e ↦ true≢false (sym (ap is_own (sym (same_above e) ∙ own)))
         | inr e ↦ true≢false (sym (comes_above path low folder some e) ∙ comes)
       ]
 
