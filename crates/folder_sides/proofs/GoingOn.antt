@@ -32,8 +32,8 @@ use Rattle.folder_sides.proofs.Stepping.{IsBetween, IsTakenAway, between}
 -- ---- nothing stands below a path without a node
 
 none_is : {X : Type 0} (o : Option X) → (is_some o ≡ true → ⊥) → o ≡ None
-none_is None no = refl
-none_is (Some x) no = absurd (no refl)
+none_is None never = refl
+none_is (Some x) never = absurd (never refl)
 
 some_none : {X : Type 0} (o : Option X) (x : X) → o ≡ Some x → o ≡ None → ⊥
 some_none o x e n = true≢false (sym (ap is_some (sym n ∙ e)))
@@ -85,12 +85,13 @@ kind_itself (File content exec) = refl
 any_found : (t : FilePath → Bool) (all rows : List JobRow) → AreFound all rows → list_any (λ row. t row.path) rows ≡ true
     → (path : FilePath) × (is_some (node_in all path) ≡ true) × (t path ≡ true)
 any_found t all [] found h = absurd (true≢false (sym h))
-any_found t all (row ∷ rows) found h = by (t row.path) refl h
+any_found t all (row ∷ rows) found h = by (t row.path) refl h (any_found t all rows found.1)
   where
     by : (b : Bool) → t row.path ≡ b → (b || list_any (λ row. t row.path) rows) ≡ true
+        → (list_any (λ row. t row.path) rows ≡ true → (path : FilePath) × (is_some (node_in all path) ≡ true) × (t path ≡ true))
         → (path : FilePath) × (is_some (node_in all path) ≡ true) × (t path ≡ true)
-    by true e h = (row.path, ap is_some found.0, e)
-    by false e h = any_found t all rows found.1 h
+    by true e h more = (row.path, ap is_some found.0, e)
+    by false e h more = more h
 
 module _ (sides : Sides) (count : ℕ) (rows : List JobRow) (are : AreSides sides) (none : HasNoConflict sides) (stopped : IsStopped sides count rows) where
   abbrev now : Sides
@@ -154,7 +155,7 @@ module _ (sides : Sides) (count : ℕ) (rows : List JobRow) (are : AreSides side
           | inl h ↦ inl h
           | inr more ↦ elim more [
             | inl h ↦ inr (inl (h ∙ end))
-            | inr h ↦ inr (inr (h.0, h.1.node, h.1.stood, ap (has_kind h.1.node) (sym end) ∙ h.1.left))
+            | inr h ↦ inr (inr (h.0, (h.1.node, h.1.stood, ap (has_kind h.1.node) (sym end) ∙ h.1.left)))
           ]
         ]
 
@@ -206,7 +207,7 @@ module _ (sides : Sides) (count : ℕ) (rows : List JobRow) (are : AreSides side
             | inl h ↦ as_logged h
             | inr h ↦ elim (lay_end sides path e) [
               | inl l ↦ l.0
-              | inr l ↦ absurd (some_none here h.1.0 h.1.1.0 l.1.1)
+              | inr l ↦ absurd (some_none here h.1.0 h.1.1 l.2)
             ]
           ]
         ]
@@ -224,7 +225,7 @@ module _ (sides : Sides) (count : ℕ) (rows : List JobRow) (are : AreSides side
         by Both e = absurd (not_both sides path (none path) e)
         by Lay e = elim (lay_end sides path e) [
           | inl l ↦ absurd (true≢false (sym (ap is_own (sym l.0 ∙ own))))
-          | inr l ↦ absurd (true≢false (sym some ∙ ap is_some l.1.1))
+          | inr l ↦ absurd (true≢false (sym some ∙ ap is_some l.2))
         ]
 
   -- ---- folders
@@ -245,8 +246,8 @@ module _ (sides : Sides) (count : ℕ) (rows : List JobRow) (are : AreSides side
     own_was : list_any (λ row. is_own_below now path row.path) rows ≡ true → list_any (λ row. is_own_below sides path row.path) sides.here ≡ true
     own_was h =
         let found = any_found (is_own_below now path) rows rows found_now h in
-        let parts = and_of (is_below found.0 path) (is_own (end_alone now found.0)) found.1.1 in
-        let own = own_before found.0 found.1.0 (own_is (end_alone now found.0) parts.1) in
+        let parts = and_of (is_below found.0 path) (is_own (end_alone now found.0)) found.2 in
+        let own = own_before found.0 found.1 (own_is (end_alone now found.0) parts.1) in
         any_there (is_own_below sides path) sides.here found.0 own.1
         (and_holds (is_below found.0 path) (is_own (end_alone sides found.0)) parts.0 (ap is_own own.0))
       where
@@ -259,8 +260,8 @@ module _ (sides : Sides) (count : ℕ) (rows : List JobRow) (are : AreSides side
     own_is_now : list_any (λ row. is_own_below sides path row.path) sides.here ≡ true → list_any (λ row. is_own_below now path row.path) rows ≡ true
     own_is_now h =
         let found = any_found (is_own_below sides path) sides.here sides.here found_here h in
-        let parts = and_of (is_below found.0 path) (is_own (end_alone sides found.0)) found.1.1 in
-        let own = own_stays found.0 found.1.0 (own_is (end_alone sides found.0) parts.1) in
+        let parts = and_of (is_below found.0 path) (is_own (end_alone sides found.0)) found.2 in
+        let own = own_stays found.0 found.1 (own_is (end_alone sides found.0) parts.1) in
         any_there (is_own_below now path) rows found.0 own.0
         (and_holds (is_below found.0 path) (is_own (end_alone now found.0)) parts.0 (ap is_own own.1))
       where
@@ -346,11 +347,11 @@ module _ (sides : Sides) (count : ℕ) (rows : List JobRow) (are : AreSides side
         by_end Same (end_is ∙ ap (λ a. end_within a (stays_in now path) (comes_in now path) (there path) (logged path)) (alone_laid path e)) refl same
 
     lay_alone : there path ≡ here path → end_alone sides path ≡ Lay → stays_in sides path ≡ false → logged path ≡ picked sides path → GoesOn
-    lay_alone e alone no same =
-        let no' : stays_in now path ≡ false = not_true (stays_in now path) (λ h. true≢false (sym (stays_was e h) ∙ no)) in
+    lay_alone e alone empty same =
+        let still : stays_in now path ≡ false = not_true (stays_in now path) (λ h. true≢false (sym (stays_was e h) ∙ empty)) in
         by_end Lay
         (end_is ∙ ap (λ a. end_within a (stays_in now path) (comes_in now path) (there path) (logged path)) (alone_as path e ∙ alone)
-        ∙ ap (λ s. laid_end s (logged path)) no') refl same
+        ∙ ap (λ s. laid_end s (logged path)) still) refl same
 
     -- a folder that was removed here and is to come back
     lay_again : there path ≡ here path → end_alone sides path ≡ Own → comes_in sides path ≡ true → here path ≡ None → logged path ≡ picked sides path
@@ -386,23 +387,23 @@ module _ (sides : Sides) (count : ℕ) (rows : List JobRow) (are : AreSides side
         by : (o : Option Node) → logged path ≡ o → GoesOn
         by None e = go_same (gone ∙ sym e) same
         by (Some other) e =
-            let no : stays_in now path ≡ false = ap (λ o. is_folder_node o && (list_any (λ row. is_own_below now path row.path) rows || odd)) gone in
+            let none_now : stays_in now path ≡ false = ap (λ o. is_folder_node o && (list_any (λ row. is_own_below now path row.path) rows || odd)) gone in
             by_end Lay
             (end_is ∙ ap (λ a. end_within a (stays_in now path) (comes_in now path) (there path) (logged path)) (lay_now other e)
-            ∙ ap (λ s. laid_end s (logged path)) no) refl same
+            ∙ ap (λ s. laid_end s (logged path)) none_now) refl same
 
     own_goes : there path ≡ here path → end_alone sides path ≡ Own → comes_in sides path ≡ false → here path ≡ picked sides path → GoesOn
-    own_goes e alone no same =
-        let no' : comes_in now path ≡ false = not_true (comes_in now path) (λ h. true≢false (sym (comes_was h) ∙ no)) in
+    own_goes e alone empty same =
+        let still : comes_in now path ≡ false = not_true (comes_in now path) (λ h. true≢false (sym (comes_was h) ∙ empty)) in
         by_end Own
         (end_is ∙ ap (λ a. end_within a (stays_in now path) (comes_in now path) (there path) (logged path)) (alone_as path e ∙ alone)
-        ∙ ap (λ c. own_end c (there path)) no') refl (e ∙ same)
+        ∙ ap (λ c. own_end c (there path)) still) refl (e ∙ same)
 
     own_kept : there path ≡ here path → end_alone sides path ≡ Lay → stays_in sides path ≡ true → logged path ≡ None → here path ≡ picked sides path → GoesOn
-    own_kept e alone yes none_there same =
+    own_kept e alone full none_there same =
         by_end Own
         (end_is ∙ ap (λ a. end_within a (stays_in now path) (comes_in now path) (there path) (logged path)) (alone_as path e ∙ alone)
-        ∙ ap (λ s. laid_end s (logged path)) (stays_now e yes) ∙ ap (laid_end true) none_there) refl (e ∙ same)
+        ∙ ap (λ s. laid_end s (logged path)) (stays_now e full) ∙ ap (laid_end true) none_there) refl (e ∙ same)
 
     pub goes_on : GoesOn
     goes_on = by (end_of sides path) refl
@@ -413,16 +414,16 @@ module _ (sides : Sides) (count : ℕ) (rows : List JobRow) (are : AreSides side
             elim (lay_there path e) [
               | inl h ↦ elim (lay_end sides path e) [
                 | inl l ↦ lay_alone h l.0 l.1 same
-                | inr l ↦ lay_again h l.0 l.1.0 l.1.1 same
+                | inr l ↦ lay_again h l.0 l.1 l.2 same
               ]
               | inr more ↦ elim more [
                 | inl h ↦ go_same h same
                 | inr h ↦ elim (lay_end sides path e) [
                   | inl l ↦ elim (lay_by (laid path) (here path) (logged path) l.0) [
-                    | inl b ↦ lay_away h.0 h.1.0 h.1.1.0 h.1.1.1 b same
-                    | inr b ↦ absurd (some_none (here path) h.1.0 h.1.1.0 b)
+                    | inl b ↦ lay_away h.0 h.1.0 h.1.1 h.1.2 b same
+                    | inr b ↦ absurd (some_none (here path) h.1.0 h.1.1 b)
                   ]
-                  | inr l ↦ absurd (some_none (here path) h.1.0 h.1.1.0 l.1.1)
+                  | inr l ↦ absurd (some_none (here path) h.1.0 h.1.1 l.2)
                 ]
               ]
             ]
@@ -430,7 +431,7 @@ module _ (sides : Sides) (count : ℕ) (rows : List JobRow) (are : AreSides side
         own : end_of sides path ≡ Own → GoesOn
         own e = elim (own_end_of sides path e) [
           | inl l ↦ own_goes (own_there path e) l.0 l.1 (picked_by Own e)
-          | inr l ↦ own_kept (own_there path e) l.0 l.1.0 l.1.1 (picked_by Own e)
+          | inr l ↦ own_kept (own_there path e) l.0 l.1 l.2 (picked_by Own e)
         ]
 
         by : (e : End) → end_of sides path ≡ e → GoesOn
@@ -441,9 +442,9 @@ module _ (sides : Sides) (count : ℕ) (rows : List JobRow) (are : AreSides side
 
   pub all_goes_on : HasNoConflict now × (merged now ≡ merged sides)
   all_goes_on =
-      let no : HasNoConflict now = λ path. (goes_on path).0 in (
-        no,
-        same_rows (merged now) (merged sides) (merged_tree now stopped.are no).in_order (merged_tree sides are none).in_order
+      let none_now : HasNoConflict now = λ path. (goes_on path).0 in (
+        none_now,
+        same_rows (merged now) (merged sides) (merged_tree now stopped.are none_now).in_order (merged_tree sides are none).in_order
             (λ path. merged_nodes now stopped.are path ∙ (goes_on path).1 ∙ sym (merged_nodes sides are path)),
       )
 

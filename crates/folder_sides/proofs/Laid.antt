@@ -53,7 +53,7 @@ module _ (sides : Sides) (are : AreSides sides) (none : HasNoConflict sides) (pa
   lost_by Same e = inl (laid_there Same e refl ∙ sym (same_by laid here logged (same_end sides path e)))
   lost_by Lay e = elim (lay_end sides path e) [
     | inl l ↦ here_by (lay_by laid here logged l.0)
-    | inr l ↦ inr (inl l.1.1)
+    | inr l ↦ inr (inl l.2)
   ]
   lost_by Own e = inl (left_there e)
   lost_by Both e = absurd (not_both sides path (none path) e)
@@ -67,7 +67,7 @@ module _ (sides : Sides) (are : AreSides sides) (none : HasNoConflict sides) (pa
   back_by Lay e = inl (laid_there Lay e refl)
   back_by Own e = elim (own_end_of sides path e) [
     | inl l ↦ logged_by (own_by laid here logged l.0)
-    | inr l ↦ inr (inl l.1.1)
+    | inr l ↦ inr (inl l.2)
   ]
   back_by Both e = absurd (not_both sides path (none path) e)
 
@@ -104,28 +104,29 @@ module _ (sides : Sides) where
   told_here : (rows : List JobRow) (path : FilePath) → filter_map (λ row. conflict_at sides row.path) rows ≡ [] → is_some (node_in rows path) ≡ true
       → is_conflict sides path ≡ false
   told_here [] path none some = absurd (true≢false (sym some))
-  told_here (row ∷ rows) path none some = by (is_job_row_at path row) refl
+  told_here (row ∷ rows) path none some =
+      let parts = none_found (λ row. conflict_at sides row.path) row rows none in
+      by (is_job_row_at path row) refl parts.0 (told_here rows path parts.1)
     where
-      parts : (conflict_at sides row.path ≡ None) × (filter_map (λ row. conflict_at sides row.path) rows ≡ [])
-      parts = none_found (λ row. conflict_at sides row.path) row rows none
-
-      by : (b : Bool) → is_job_row_at path row ≡ b → is_conflict sides path ≡ false
-      by true e = ap (is_conflict sides) (sym (tied_path row.path path e)) ∙ told row.path parts.0
-      by false e =
+      by : (b : Bool) → is_job_row_at path row ≡ b → conflict_at sides row.path ≡ None
+          → (is_some (node_in rows path) ≡ true → is_conflict sides path ≡ false) → is_conflict sides path ≡ false
+      by true e first more = ap (is_conflict sides) (sym (tied_path row.path path e)) ∙ told row.path first
+      by false e first more =
           let there : node_in (row ∷ rows) path ≡ node_in rows path = rw e refl in
-          told_here rows path parts.1 (sym (ap is_some there) ∙ some)
+          more (sym (ap is_some there) ∙ some)
 
   told_beside : (paths : List FilePath) (path : FilePath) → filter_map (conflict_at sides) paths ≡ []
       → list_any (λ other. is_same_path other path) paths ≡ true → is_conflict sides path ≡ false
   told_beside [] path none some = absurd (true≢false (sym some))
-  told_beside (other ∷ paths) path none some = by (is_same_path other path) refl some
+  told_beside (other ∷ paths) path none some =
+      let parts = none_found (conflict_at sides) other paths none in
+      by (is_same_path other path) refl some parts.0 (told_beside paths path parts.1)
     where
-      parts : (conflict_at sides other ≡ None) × (filter_map (conflict_at sides) paths ≡ [])
-      parts = none_found (conflict_at sides) other paths none
-
-      by : (b : Bool) → is_same_path other path ≡ b → (b || list_any (λ other. is_same_path other path) paths) ≡ true → is_conflict sides path ≡ false
-      by true e some = ap (is_conflict sides) (sym (tied_path other path e)) ∙ told other parts.0
-      by false e some = told_beside paths path parts.1 some
+      by : (b : Bool) → is_same_path other path ≡ b → (b || list_any (λ other. is_same_path other path) paths) ≡ true
+          → conflict_at sides other ≡ None → (list_any (λ other. is_same_path other path) paths ≡ true → is_conflict sides path ≡ false)
+          → is_conflict sides path ≡ false
+      by true e some first more = ap (is_conflict sides) (sym (tied_path other path e)) ∙ told other first
+      by false e some first more = more some
 
   some_folder : (o : Option Node) → is_folder_node o ≡ true → is_some o ≡ true
   some_folder None h = absurd (true≢false (sym h))

@@ -328,9 +328,9 @@ pub stops_equal : (path : FilePath) (made whole high rest : List JobRow) (row : 
     → (made ++ below path rest ≡ whole) × (above path rest ≡ high) × JobRowsAreInOrder rest → path_cmp row.path path ≡ Equal
     → (made ≡ whole) × (more ≡ high)
 stops_equal path made whole high rest row more split invariant at =
-    let stop = stopped_at path row more (subst JobRowsAreInOrder split invariant.1.1) at in (
+    let stop = stopped_at path row more (subst JobRowsAreInOrder split invariant.2) at in (
       sym (append-nil made) ∙ ap (λ l. made ++ l) (sym (ap (below path) split ∙ stop.0)) ∙ invariant.0,
-      sym (ap (above path) split ∙ stop.1) ∙ invariant.1.0,
+      sym (ap (above path) split ∙ stop.1) ∙ invariant.1,
     )
 
 -- and above it
@@ -338,9 +338,9 @@ pub stops_greater : (path : FilePath) (made whole high rest : List JobRow) (row 
     → (made ++ below path rest ≡ whole) × (above path rest ≡ high) × JobRowsAreInOrder rest → path_cmp row.path path ≡ Greater
     → (made ≡ whole) × (rest ≡ high)
 stops_greater path made whole high rest row more split invariant at =
-    let stop = stopped_above path row more (subst JobRowsAreInOrder split invariant.1.1) at in (
+    let stop = stopped_above path row more (subst JobRowsAreInOrder split invariant.2) at in (
       sym (append-nil made) ∙ ap (λ l. made ++ l) (sym (ap (below path) split ∙ stop.0)) ∙ invariant.0,
-      invariant.1.0,
+      invariant.1,
     )
 
 -- one more turn of the loop over the rows

@@ -13,7 +13,6 @@ use Rattle.cmd_capture.specs.Rows.{is_job_row_at, node_in, AreJobRows}
 use Rattle.work_area.specs.Changes.{has_kind, is_gone}
 use Rattle.work_area.proofs.JobRows.{AreDistinct, are_distinct}
 use Rattle.work_area.proofs.Unchanged.{AreFound, are_found, kind_stays}
-use Rattle.work_area.proofs.Leading.{gone}
 use Rattle.work_area.proofs.Applying.{all_reverse, all_map}
 use Rattle.folder_sides.specs.declared.steps.Step.{Step}
 use Rattle.folder_sides.specs.Sides.{is_same}
@@ -42,10 +41,10 @@ all_found f P (row ∷ rows) all = by (f row) refl (all_found f P rows all.1)
 -- what each step leaves holds behind all of them
 pub holds_behind : (path : FilePath) (P : Option Node → Type 0) (steps : List Step)
     → AllByRecursion (λ step. is_same_path step.path path ≡ true → P step.after) steps → (node : Option Node) → P node → P (node_behind path node steps)
-holds_behind path P [] all node holds = holds
-holds_behind path P (step ∷ more) all node holds =
-    holds_behind path P more all.1 (behind_step path node step)
-    (elim (is_same_path step.path path) as (λ b. is_same_path step.path path ≡ b → P (cond b step.after node)) [
+holds_behind path P [] all old holds = holds
+holds_behind path P (step ∷ more) all old holds =
+    holds_behind path P more all.1 (behind_step path old step)
+    (elim (is_same_path step.path path) as (λ b. is_same_path step.path path ≡ b → P (cond b step.after old)) [
       | true ↦ λ e. all.0 e
       | false ↦ λ e. holds
     ] refl)
@@ -118,17 +117,17 @@ module _ (before after : List JobRow) (path : FilePath) where
 
 behind_joined : (path : FilePath) (node : Option Node) (xs ys : List Step)
     → node_behind path node (xs ++ ys) ≡ node_behind path (node_behind path node xs) ys
-behind_joined path node [] ys = refl
-behind_joined path node (x ∷ xs) ys = behind_joined path (behind_step path node x) xs ys
+behind_joined path old [] ys = refl
+behind_joined path old (x ∷ xs) ys = behind_joined path (behind_step path old x) xs ys
 
 -- what a step leaves at its path
 abbrev outcome : Option Step → Option Node → Option Node
-outcome None node = node
-outcome (Some step) node = step.after
+outcome None old = old
+outcome (Some step) old = step.after
 
 abbrev outcome_of : (JobRow → Option Step) → Option JobRow → Option Node → Option Node
-outcome_of f None node = node
-outcome_of f (Some row) node = outcome (f row) node
+outcome_of f None old = old
+outcome_of f (Some row) old = outcome (f row) old
 
 module _ (path : FilePath) (f : JobRow → Option Step) (paths : (row : JobRow) (step : Step) → f row ≡ Some step → step.path ≡ row.path) where
   -- the step of a row
@@ -156,40 +155,46 @@ module _ (path : FilePath) (f : JobRow → Option Step) (paths : (row : JobRow) 
 
   forward : (rows : List JobRow) → AreDistinct rows → (node : Option Node)
       → node_behind path node (filter_map f rows) ≡ outcome_of f (find (is_job_row_at path) rows) node
-  forward [] distinct node = refl
-  forward (row ∷ rows) distinct node = of_row row node (filter_map f rows) ∙ by (is_job_row_at path row) refl (forward rows distinct.1)
+  forward [] distinct old = refl
+  forward (row ∷ rows) distinct old = of_row row old (filter_map f rows) ∙ by (is_job_row_at path row) refl (forward rows distinct.1)
     where
       by : (b : Bool) → is_job_row_at path row ≡ b
           → ((n : Option Node) → node_behind path n (filter_map f rows) ≡ outcome_of f (find (is_job_row_at path) rows) n)
-          → node_behind path (cond b (outcome (f row) node) node) (filter_map f rows)
-          ≡ outcome_of f (cond b (Some row) (find (is_job_row_at path) rows)) node
+          → node_behind path (cond b (outcome (f row) old) old) (filter_map f rows)
+          ≡ outcome_of f (cond b (Some row) (find (is_job_row_at path) rows)) old
       by true e more =
-          more (outcome (f row) node)
-          ∙ ap (λ o. outcome_of f o (outcome (f row) node)) (none_at row.path (tied_path row.path path e) rows distinct.0)
-      by false e more = more node
+          more (outcome (f row) old)
+          ∙ ap (λ o. outcome_of f o (outcome (f row) old)) (none_at row.path (tied_path row.path path e) rows distinct.0)
+      by false e more = more old
 
-  backward : (rows : List JobRow) → AreDistinct rows → (node : Option Node)
-      → node_behind path node (filter_map f (reverse rows)) ≡ outcome_of f (find (is_job_row_at path) rows) node
-  backward [] distinct node = refl
-  backward (row ∷ rows) distinct node =
-      ap (node_behind path node) (found_joined rows row) ∙ behind_joined path node (filter_map f (reverse rows)) (cons_option (f row) [])
-      ∙ of_row row (node_behind path node (filter_map f (reverse rows))) [] ∙ by (is_job_row_at path row) refl (backward rows distinct.1 node)
+  backward : (rows : List JobRow) → AreDistinct rows → (old : Option Node)
+      → node_behind path old (filter_map f (reverse rows)) ≡ outcome_of f (find (is_job_row_at path) rows) old
+  backward [] distinct old = refl
+  backward (row ∷ rows) distinct old =
+      ap (node_behind path old) (found_joined rows row) ∙ behind_joined path old (filter_map f (reverse rows)) (cons_option (f row) [])
+      ∙ of_row row (node_behind path old (filter_map f (reverse rows))) [] ∙ by (is_job_row_at path row) refl (backward rows distinct.1 old)
     where
       by : (b : Bool) → is_job_row_at path row ≡ b
-          → node_behind path node (filter_map f (reverse rows)) ≡ outcome_of f (find (is_job_row_at path) rows) node
-          → cond b (outcome (f row) (node_behind path node (filter_map f (reverse rows)))) (node_behind path node (filter_map f (reverse rows)))
-          ≡ outcome_of f (cond b (Some row) (find (is_job_row_at path) rows)) node
+          → node_behind path old (filter_map f (reverse rows)) ≡ outcome_of f (find (is_job_row_at path) rows) old
+          → cond b (outcome (f row) (node_behind path old (filter_map f (reverse rows)))) (node_behind path old (filter_map f (reverse rows)))
+          ≡ outcome_of f (cond b (Some row) (find (is_job_row_at path) rows)) old
       by true e more =
-          ap (outcome (f row)) (more ∙ ap (λ o. outcome_of f o node) (none_at row.path (tied_path row.path path e) rows distinct.0))
+          ap (outcome (f row)) (more ∙ ap (λ o. outcome_of f o old) (none_at row.path (tied_path row.path path e) rows distinct.0))
       by false e more = more
 
 found_at : (path : FilePath) (rows : List JobRow) (row : JobRow) → find (is_job_row_at path) rows ≡ Some row → row.path ≡ path
 found_at path [] row h = absurd cc
-found_at path (r ∷ rows) row h = by (is_job_row_at path r) refl h
+found_at path (r ∷ rows) row h = by (is_job_row_at path r) refl h (found_at path rows row)
   where
-    by : (b : Bool) → is_job_row_at path r ≡ b → cond b (Some r) (find (is_job_row_at path) rows) ≡ Some row → row.path ≡ path
-    by true e h = let same : r ≡ row = cc in ap (λ (x : JobRow). x.path) (sym same) ∙ tied_path r.path path e
-    by false e h = found_at path rows row h
+    by : (b : Bool) → is_job_row_at path r ≡ b → cond b (Some r) (find (is_job_row_at path) rows) ≡ Some row
+        → (find (is_job_row_at path) rows ≡ Some row → row.path ≡ path) → row.path ≡ path
+    by true e h more = let same : r ≡ row = cc in ap (λ (x : JobRow). x.path) (sym same) ∙ tied_path r.path path e
+    by false e h more = more h
+
+-- something stood there, and nothing of its kind is left
+abbrev gone : Option Node → Option Node → Bool
+gone None after = false
+gone (Some stood) after = not (has_kind stood after)
 
 module _ (before after : List JobRow) (path : FilePath) where
   abbrev b : Option Node

@@ -65,9 +65,9 @@ within_down p c h =
 
 -- only a path that is left out itself is left out without its folder
 within_itself : (p c : FilePath) → is_within p c ≡ true → is_within (folder_of p) c ≡ false → p ≡ c
-within_itself p c h no = elim (cases_lt (length c) (length p)) [
+within_itself p c h outside = elim (cases_lt (length c) (length p)) [
   | inl less ↦ absurd (true≢false (sym (within (folder_of p) c
-      (begins p c h ∙ sym (take-take (length c) (length p - 1) p (omega (arith, less))))) ∙ no))
+      (begins p c h ∙ sym (take-take (length c) (length p - 1) p (omega (arith, less))))) ∙ outside))
   | inr more ↦ sym (begins p c h ∙ take_all (length c) p more)
 ]
 
@@ -103,23 +103,24 @@ module _ (sides : Sides) (are : AreSides sides) where
   folder_beside : (paths : List FilePath) (path : FilePath)
       → AllByRecursion (λ c. (is_folder_in sides.here (folder_of c) ≡ true) × (node_in sides.here c ≡ None)) paths
       → list_any (is_within path) paths ≡ true → list_any (is_within (folder_of path)) paths ≡ false → is_folder_in sides.here (folder_of path) ≡ true
-  folder_beside [] path all yes no = absurd (true≢false (sym yes))
-  folder_beside (c ∷ cs) path all yes no = by (is_within path c) refl yes
+  folder_beside [] path all inside outside = absurd (true≢false (sym inside))
+  folder_beside (c ∷ cs) path all inside outside =
+      let out = or_false_of (is_within (folder_of path) c) (list_any (is_within (folder_of path)) cs) outside in
+      by (is_within path c) refl inside out.0 (λ more. folder_beside cs path all.1 more out.1)
     where
-      nos : (is_within (folder_of path) c ≡ false) × (list_any (is_within (folder_of path)) cs ≡ false)
-      nos = or_false_of (is_within (folder_of path) c) (list_any (is_within (folder_of path)) cs) no
-
-      by : (b : Bool) → is_within path c ≡ b → (b || list_any (is_within path) cs) ≡ true → is_folder_in sides.here (folder_of path) ≡ true
-      by true e yes = subst (λ p. is_folder_in sides.here (folder_of p) ≡ true) (sym (within_itself path c e nos.0)) all.0.0
-      by false e yes = folder_beside cs path all.1 yes nos.1
+      by : (b : Bool) → is_within path c ≡ b → (b || list_any (is_within path) cs) ≡ true → is_within (folder_of path) c ≡ false
+          → (list_any (is_within path) cs ≡ true → is_folder_in sides.here (folder_of path) ≡ true) → is_folder_in sides.here (folder_of path) ≡ true
+      by true e inside out more = subst (λ p. is_folder_in sides.here (folder_of p) ≡ true) (sym (within_itself path c e out)) all.0.0
+      by false e inside out more = more inside
 
   in_out : (path : FilePath) (cs : List FilePath) → list_any (is_within (folder_of path)) cs ≡ true → list_any (is_within path) cs ≡ true
   in_out path [] h = absurd (true≢false (sym h))
-  in_out path (c ∷ cs) h = by (is_within (folder_of path) c) refl h
+  in_out path (c ∷ cs) h = by (is_within (folder_of path) c) refl h (in_out path cs)
     where
-      by : (b : Bool) → is_within (folder_of path) c ≡ b → (b || list_any (is_within (folder_of path)) cs) ≡ true → (is_within path c || list_any (is_within path) cs) ≡ true
-      by true e h = ap (λ b. b || list_any (is_within path) cs) (within_down path c e)
-      by false e h = or_true (is_within path c) (list_any (is_within path) cs) (in_out path cs h)
+      by : (b : Bool) → is_within (folder_of path) c ≡ b → (b || list_any (is_within (folder_of path)) cs) ≡ true
+          → (list_any (is_within (folder_of path)) cs ≡ true → list_any (is_within path) cs ≡ true) → (is_within path c || list_any (is_within path) cs) ≡ true
+      by true e h more = ap (λ b. b || list_any (is_within path) cs) (within_down path c e)
+      by false e h more = or_true (is_within path c) (list_any (is_within path) cs) (more h)
 
   folder_stands : (path : FilePath) → is_root (folder_of path) ≡ false → is_some (node_in (standing sides) path) ≡ true
       → is_folder_node (node_in (standing sides) (folder_of path)) ≡ true
@@ -224,11 +225,12 @@ nothing_taken : (rows : List JobRow) (paths : List FilePath) (path : FilePath)
     → AllByRecursion (λ c. (is_folder_in rows (folder_of c) ≡ true) × (node_in rows c ≡ None)) paths
     → list_any (λ other. is_same_path other path) paths ≡ true → node_in rows path ≡ None
 nothing_taken rows [] path all h = absurd (true≢false (sym h))
-nothing_taken rows (c ∷ cs) path all h = by (is_same_path c path) refl h
+nothing_taken rows (c ∷ cs) path all h = by (is_same_path c path) refl h (nothing_taken rows cs path all.1)
   where
-    by : (b : Bool) → is_same_path c path ≡ b → (b || list_any (λ other. is_same_path other path) cs) ≡ true → node_in rows path ≡ None
-    by true e h = subst (λ p. node_in rows p ≡ None) (tied_path c path e) all.0.1
-    by false e h = nothing_taken rows cs path all.1 h
+    by : (b : Bool) → is_same_path c path ≡ b → (b || list_any (λ other. is_same_path other path) cs) ≡ true
+        → (list_any (λ other. is_same_path other path) cs ≡ true → node_in rows path ≡ None) → node_in rows path ≡ None
+    by true e h more = subst (λ p. node_in rows p ≡ None) (tied_path c path e) all.0.1
+    by false e h more = more h
 
 pub lay_idle : LayBehindTakeIsIdle
 lay_idle sides are same =

@@ -25,13 +25,13 @@ use Rattle.folder_sides.proofs.Below.{up_below, own_below}
 -- a path with a node is not the root
 pub below_root : (rows : List JobRow) (path : FilePath) → AllByRecursion IsJobRow rows → is_some (node_in rows path) ≡ true → is_root path ≡ false
 below_root [] path all some = absurd (true≢false (sym some))
-below_root (row ∷ rows) path all some = by (is_job_row_at path row) refl
+below_root (row ∷ rows) path all some = by (is_job_row_at path row) refl (below_root rows path all.1)
   where
-    by : (b : Bool) → is_job_row_at path row ≡ b → is_root path ≡ false
-    by true e = ap is_root (sym (tied_path row.path path e)) ∙ all.0.below_root
-    by false e =
+    by : (b : Bool) → is_job_row_at path row ≡ b → (is_some (node_in rows path) ≡ true → is_root path ≡ false) → is_root path ≡ false
+    by true e more = ap is_root (sym (tied_path row.path path e)) ∙ all.0.below_root
+    by false e more =
         let there : node_in (row ∷ rows) path ≡ node_in rows path = rw e refl in
-        below_root rows path all.1 (sym (ap is_some there) ∙ some)
+        more (sym (ap is_some there) ∙ some)
 
 pub folder_is : (o : Option Node) → is_folder_node o ≡ true → o ≡ Some Folder
 folder_is None h = absurd (true≢false (sym h))
@@ -87,7 +87,7 @@ module _ (sides : Sides) (are : AreSides sides) (none : HasNoConflict sides) whe
         | inl e ↦ first
             (any_there (is_own_below sides (folder_of path)) sides.here path some
             (and_holds (is_below path (folder_of path)) (is_own (end_alone sides path)) (own_below path low) (ap is_own e.0)))
-        | inr e ↦ inside (and_of (is_folder_node (node_in sides.here path)) _ e.1.0).1
+        | inr e ↦ inside (and_of (is_folder_node (node_in sides.here path)) _ e.1).1
       ])
     where
       first : own_there (folder_of path) ≡ true → (own_there (folder_of path) || odd_there (folder_of path)) ≡ true
@@ -117,7 +117,7 @@ module _ (sides : Sides) (are : AreSides sides) (none : HasNoConflict sides) whe
             (λ row holds.
             let parts = and_of (is_below row.path path) (is_lay (end_alone sides row.path)) holds in
             and_holds (is_below row.path (folder_of path)) (is_lay (end_alone sides row.path)) (up_below row.path path parts.0) parts.1) sides.logged
-            (and_of (is_folder_node (node_in sides.logged path)) _ e.1.0).1
+            (and_of (is_folder_node (node_in sides.logged path)) _ e.1).1
       ])
 
   abbrev IsFolderPicked : FilePath → Type 0
@@ -149,7 +149,7 @@ module _ (sides : Sides) (are : AreSides sides) (none : HasNoConflict sides) whe
           ∙ folder
       by Lay e = elim (lay_end sides (folder_of path) e) [
         | inl l ↦ absurd (true≢false (sym (stays_above path low folder some own) ∙ l.1))
-        | inr l ↦ absurd (some_not_none (node_in sides.here (folder_of path)) folder l.1.1)
+        | inr l ↦ absurd (some_not_none (node_in sides.here (folder_of path)) folder l.2)
       ]
 
   -- the folder of what the log has
@@ -178,7 +178,7 @@ module _ (sides : Sides) (are : AreSides sides) (none : HasNoConflict sides) whe
       by Both e = absurd (not_both sides (folder_of path) (none (folder_of path)) e)
       by Own e = elim (own_end_of sides (folder_of path) e) [
         | inl l ↦ absurd (own_alone l.0 l.1)
-        | inr l ↦ absurd (some_not_none (node_in sides.logged (folder_of path)) folder l.1.1)
+        | inr l ↦ absurd (some_not_none (node_in sides.logged (folder_of path)) folder l.2)
       ]
 
   -- the folder of what is picked is picked

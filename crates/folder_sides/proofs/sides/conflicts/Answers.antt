@@ -1,4 +1,5 @@
-use Rattle.std.proofs.Common.{◌++◌, ◌∙◌, sym, ap, append_assoc}
+use Rattle.std.proofs.Common.{◌++◌, ◌∙◌, sym, take, append_assoc}
+use Rattle.std.specs.Option.{option_to_list}
 use Rattle.std.specs.List.{filter_map}
 use Rattle.file_paths.proofs.Loops.{filter_map_more}
 use Rattle.folder_sides.specs.Sides.{conflict_at}
@@ -18,4 +19,5 @@ loop-path-preserved c =
     let more =
     filter_map_more (conflict_at c.args.sides.now) c.args.sides.now.beside c.loop-path.path-index c.path-item.result
     (rw items at c.loop-path-test.true) (rw items at c.path-item.is) in
-    rw (c.in_ok-push_found.ensures.ok, c.loop-path.invariant, c.in_ok-conflict_at.ensures, more) (append_assoc _ _ _)
+    rw (c.in_ok-push_found-2.ensures.ok, c.loop-path.invariant, c.in_ok-conflict_at-2.ensures, more) (append_assoc (filter_map (λ row. conflict_at c.args.sides.now row.path) c.args.sides.now.here)
+    (filter_map (conflict_at c.args.sides.now) (take c.loop-path.path-index c.args.sides.now.beside)) (option_to_list (conflict_at c.args.sides.now c.path-item.result)))
