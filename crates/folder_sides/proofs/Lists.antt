@@ -340,7 +340,7 @@ pub stops_greater : (path : FilePath) (made whole high rest : List JobRow) (row 
 stops_greater path made whole high rest row more split invariant at =
     let stop = stopped_above path row more (subst JobRowsAreInOrder split invariant.2) at in (
       sym (append-nil made) ∙ ap (λ l. made ++ l) (sym (ap (below path) split ∙ stop.0)) ∙ invariant.0,
-      invariant.1,
+      split ∙ sym (ap (above path) split ∙ stop.1) ∙ invariant.1,
     )
 
 -- one more turn of the loop over the rows
