@@ -1,7 +1,6 @@
 -- What is known of a path by what becomes of it.
 use Rattle.std.proofs.Common.{◌≡◌, ◌⊎◌, inl, inr, Bool, true, false, not, ◌&&◌, Option, Some, None, is_some, cond, refl, sym, ap, ◌∙◌}
 use Rattle.std.proofs.Common.{true≢false}
-use Rattle.std.specs.Str.{bytes_eq}
 use Rattle.std.specs.Cmp.Lexicographic.{bytes_decides}
 use Rattle.tree_values.specs.declared.node.Node.{Node}
 use Rattle.tree_values.specs.declared.node.Node.TheVariants.{Folder, File}
@@ -10,7 +9,7 @@ use Rattle.cmd_capture.specs.Rows.{node_in}
 use Rattle.folder_sides.specs.declared.sides.Sides.{Sides}
 use Rattle.folder_sides.specs.declared.ends.End.{End}
 use Rattle.folder_sides.specs.declared.ends.End.TheVariants.{Same, Lay, Own, Both}
-use Rattle.folder_sides.specs.Sides.{is_same_node, is_same, end_by, end_alone, end_within, end_of, laid_end, own_end, stays_in, comes_in, is_taken, is_both, is_conflict}
+use Rattle.folder_sides.specs.Sides.{is_same_node, is_same, end_by, end_alone, end_within, end_of, stays_in, comes_in, is_taken, is_both, is_conflict}
 
 -- ---- one node
 

@@ -1,8 +1,8 @@
 -- A laying that was stopped goes on.
-use Rattle.std.proofs.Common.{◌≡◌, ◌⊎◌, inl, inr, ℕ, zero, suc, ◌-◌, ◌<◌, ◌≤◌, Bool, true, false, not, ◌||◌, ◌&&◌, List, [], ◌∷◌, length, take, Option, Some, None, is_some, cond, refl, sym, ap, ◌∙◌, arith}
+use Rattle.std.proofs.Common.{◌≡◌, ◌⊎◌, inl, inr, ℕ, zero, suc, ◌-◌, ◌<◌, ◌≤◌, Bool, true, false, ◌||◌, ◌&&◌, List, [], ◌∷◌, length, take, Option, Some, None, is_some, cond, refl, sym, ap, ◌∙◌, arith}
 use Rattle.std.proofs.Common.{subst, true≢false}
 use Rattle.std.specs.Prelude.{nat_lt}
-use Rattle.std.specs.List.{list_any, AllByRecursion}
+use Rattle.std.specs.List.{list_any}
 use Rattle.std.proofs.lemmas.Bool.{cases_lt}
 use Rattle.std.proofs.lemmas.List.{take-take}
 use Rattle.byte_fields.proofs.Facts.{and_of, and_holds, or_true, not_true, lt_holds, lt_of}
@@ -20,11 +20,10 @@ use Rattle.folder_sides.specs.declared.sides.Sides.{Sides}
 use Rattle.folder_sides.specs.declared.ends.End.{End}
 use Rattle.folder_sides.specs.declared.ends.End.TheVariants.{Same, Lay, Own, Both}
 use Rattle.folder_sides.specs.Sides.{AreSides, is_same, end_by, end_alone, end_within, end_of, is_below, is_own, is_lay, is_own_below, is_laid_below, stays_in, comes_in, is_taken, laid_end, own_end, is_both, is_conflict, HasNoConflict}
-use Rattle.folder_sides.specs.Merging.{stays, is_left, picked, merged}
-use Rattle.folder_sides.specs.Steps.{laying}
+use Rattle.folder_sides.specs.Merging.{stays, picked, merged}
 use Rattle.folder_sides.specs.Laws.{with_here, IsStopped, LaysGoOn}
 use Rattle.folder_sides.proofs.Lists.{any_more, any_there, same_rows}
-use Rattle.folder_sides.proofs.EndCases.{same_end, lay_end, own_end_of, not_both, same_by, lay_by, own_by, alone_same, is_same_of, same_is}
+use Rattle.folder_sides.proofs.EndCases.{same_end, lay_end, own_end_of, not_both, same_by, lay_by, alone_same, same_is}
 use Rattle.folder_sides.proofs.Below.{begins, within, folder_len}
 use Rattle.folder_sides.proofs.Trees.{above, below_root, merged_nodes, merged_tree}
 use Rattle.folder_sides.proofs.Stepping.{IsBetween, IsTakenAway, between}

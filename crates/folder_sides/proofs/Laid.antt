@@ -1,20 +1,19 @@
 -- What stands behind a laying, and that none of it is lost.
 use Rattle.std.proofs.Common.{◌≡◌, ◌⊎◌, inl, inr, Bool, true, false, not, ◌||◌, ◌&&◌, List, [], ◌∷◌, ◌++◌, Option, Some, None, is_some, cond, refl, sym, ap, ◌∙◌}
-use Rattle.std.proofs.Common.{subst, true≢false}
-use Rattle.std.specs.List.{list_any, filter_map, cons_option, AllByRecursion}
+use Rattle.std.proofs.Common.{true≢false}
+use Rattle.std.specs.List.{list_any, filter_map, cons_option}
 use Rattle.byte_fields.proofs.Facts.{and_of}
 use Rattle.file_paths.specs.Path.{FilePath, is_same_path}
 use Rattle.file_paths.proofs.Order.{tied_path}
 use Rattle.tree_values.specs.Tree.{is_folder_node}
 use Rattle.tree_values.specs.declared.node.Node.{Node}
-use Rattle.tree_values.specs.declared.node.Node.TheVariants.{Folder, File}
 use Rattle.cmd_capture.specs.declared.job.JobRow.{JobRow}
 use Rattle.cmd_capture.specs.Rows.{is_job_row_at, node_in}
 use Rattle.folder_sides.specs.declared.sides.Sides.{Sides}
 use Rattle.folder_sides.specs.declared.ends.End.{End}
 use Rattle.folder_sides.specs.declared.ends.End.TheVariants.{Same, Lay, Own, Both}
-use Rattle.folder_sides.specs.Sides.{AreSides, is_same, end_by, end_alone, end_within, end_of, is_both, is_conflict, conflict_at, conflicts, is_taken, stays_in, comes_in, HasNoConflict}
-use Rattle.folder_sides.specs.Merging.{stays, is_left, picked, merged}
+use Rattle.folder_sides.specs.Sides.{AreSides, is_same, end_by, end_alone, end_within, end_of, is_both, is_conflict, conflict_at, is_taken, stays_in, comes_in, HasNoConflict}
+use Rattle.folder_sides.specs.Merging.{stays, merged}
 use Rattle.folder_sides.specs.Laws.{ConflictsAreTold, SidesAreATree, LaidIsTheTree, NothingIsLost, NothingIsTakenBack}
 use Rattle.folder_sides.proofs.EndCases.{same_end, lay_end, own_end_of, not_both, same_by, lay_by, own_by}
 use Rattle.folder_sides.proofs.Trees.{merged_nodes, merged_tree}

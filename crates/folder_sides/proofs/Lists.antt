@@ -1,5 +1,5 @@
 -- Rows of the one among those of the other, and what stands at their paths.
-use Rattle.std.proofs.Common.{◌≡◌, Bool, true, false, not, ◌||◌, ◌&&◌, List, [], ◌∷◌, ◌++◌, filter, Option, Some, None, is_some, cond, refl, sym, ap, ◌∙◌}
+use Rattle.std.proofs.Common.{◌≡◌, Bool, true, false, ◌||◌, ◌&&◌, List, [], ◌∷◌, ◌++◌, filter, Some, None, is_some, cond, refl, sym, ap, ◌∙◌}
 use Rattle.std.proofs.Common.{subst, true≢false, ℕ, ◌+◌, ◌<◌, length, take, get_or, append_assoc, append-nil}
 use Rattle.std.proofs.Common.{Result, Ok, Err, IfOk}
 use Rattle.std.proofs.lemmas.List.{take_more}
@@ -14,7 +14,6 @@ use Rattle.byte_fields.proofs.Facts.{none_behind}
 use Rattle.file_paths.specs.Path.{FilePath, path_cmp, is_same_path}
 use Rattle.file_paths.proofs.Order.{paths_total, paths_differ, paths_apart, tied_path, path_tied, own_path, same_path, is_less}
 use Rattle.tree_values.proofs.Ordered.{is_greater}
-use Rattle.tree_values.specs.declared.node.Node.{Node}
 use Rattle.cmd_capture.specs.declared.job.JobRow.{JobRow}
 use Rattle.cmd_capture.specs.Rows.{is_job_row_at, node_in, JobRowsAreInOrder, AreJobRows}
 use Rattle.work_area.proofs.Applying.{all_map}

@@ -1,18 +1,18 @@
 -- What stands at a path behind steps.
-use Rattle.std.proofs.Common.{◌≡◌, ◌⊎◌, inl, inr, ℕ, zero, suc, Bool, true, false, not, List, [], ◌∷◌, ◌++◌, reverse, take, find, Option, Some, None, is_some, option_map, cond, refl, sym, ap, ◌∙◌}
-use Rattle.std.proofs.Common.{subst, true≢false}
+use Rattle.std.proofs.Common.{◌≡◌, ◌⊎◌, inl, inr, ℕ, zero, suc, Bool, true, false, not, List, [], ◌∷◌, ◌++◌, reverse, take, find, Option, Some, None, option_map, cond, refl, sym, ap, ◌∙◌}
+use Rattle.std.proofs.Common.{subst}
 use Rattle.std.specs.List.{filter_map, cons_option, AllByRecursion}
 use Rattle.std.proofs.lemmas.List.{reverse-append}
 use Rattle.std.proofs.lemmas.List.Elements.{filter_map-append}
-use Rattle.byte_fields.proofs.Facts.{not_of, not_false_of}
+use Rattle.byte_fields.proofs.Facts.{not_of}
 use Rattle.file_paths.specs.Path.{FilePath, is_same_path}
-use Rattle.file_paths.proofs.Order.{tied_path, own_path}
+use Rattle.file_paths.proofs.Order.{tied_path}
 use Rattle.tree_values.specs.declared.node.Node.{Node}
 use Rattle.cmd_capture.specs.declared.job.JobRow.{JobRow}
 use Rattle.cmd_capture.specs.Rows.{is_job_row_at, node_in, AreJobRows}
 use Rattle.work_area.specs.Changes.{has_kind, is_gone}
 use Rattle.work_area.proofs.JobRows.{AreDistinct, are_distinct}
-use Rattle.work_area.proofs.Unchanged.{AreFound, are_found, kind_stays}
+use Rattle.work_area.proofs.Unchanged.{are_found, kind_stays}
 use Rattle.work_area.proofs.Applying.{all_reverse, all_map}
 use Rattle.folder_sides.specs.declared.steps.Step.{Step}
 use Rattle.folder_sides.specs.Sides.{is_same}

@@ -1,37 +1,34 @@
 -- What a taking logs, and what it leaves.
-use Rattle.std.proofs.Common.{◌≡◌, ◌⊎◌, inl, inr, ℕ, ◌-◌, ◌<◌, ◌≤◌, Bool, true, false, not, ◌||◌, ◌&&◌, List, [], ◌∷◌, ◌++◌, filter, reverse, length, take, Option, Some, None, is_some, Result, Ok, Err, cond, refl, sym, ap, ◌∙◌, arith}
+use Rattle.std.proofs.Common.{◌≡◌, ◌⊎◌, inl, inr, ◌-◌, ◌<◌, ◌≤◌, Bool, true, false, not, ◌||◌, ◌&&◌, List, [], ◌∷◌, ◌++◌, filter, reverse, length, take, Option, Some, None, is_some, Ok, cond, refl, sym, ap, ◌∙◌, arith}
 use Rattle.std.proofs.Common.{subst, true≢false}
 use Rattle.std.specs.List.{list_any, filter_map, cons_option, AllByRecursion}
 use Rattle.std.specs.Option.{option_or}
 use Rattle.std.proofs.lemmas.Bool.{cases_lt}
 use Rattle.std.proofs.lemmas.List.{take-take, take_all, length-take}
-use Rattle.byte_fields.proofs.Facts.{and_of, or_true, not_true, or_false_of}
+use Rattle.byte_fields.proofs.Facts.{and_of, or_true, or_false_of}
 use Rattle.file_paths.specs.Refusals.{when, unless_refused}
 use Rattle.file_paths.specs.Path.{FilePath, folder_of, is_same_path}
 use Rattle.file_paths.proofs.Order.{tied_path, own_path}
-use Rattle.tree_values.specs.Tree.{Volume, node_at, version_at, is_root, is_folder_node}
+use Rattle.tree_values.specs.Tree.{is_root, is_folder_node}
 use Rattle.tree_values.specs.Effects.{apply_all}
 use Rattle.tree_values.specs.declared.node.Node.{Node}
-use Rattle.tree_values.specs.declared.node.Node.TheVariants.{Folder, File}
 use Rattle.tree_values.specs.declared.node.Effect.{Effect}
 use Rattle.cmd_capture.specs.declared.job.JobRow.{JobRow}
 use Rattle.cmd_capture.specs.Rows.{node_in, is_folder_in, IsJobRow, JobRowsAreInOrder, AreJobRows}
 use Rattle.work_area.specs.Jobs.{is_within}
 use Rattle.work_area.specs.Changes.{changes, has_kind, is_gone}
-use Rattle.work_area.proofs.JobRows.{are_distinct, AreDistinct}
-use Rattle.work_area.proofs.Unchanged.{AreFound, are_found, kind_stays}
+use Rattle.work_area.proofs.JobRows.{are_distinct}
+use Rattle.work_area.proofs.Unchanged.{are_found, kind_stays}
 use Rattle.work_area.proofs.Applying.{leads, leaves, nothing, all_reverse, all_map}
 use Rattle.folder_sides.specs.declared.sides.Sides.{Sides}
 use Rattle.folder_sides.specs.declared.steps.Step.{Step}
-use Rattle.folder_sides.specs.declared.ends.End.{End}
-use Rattle.folder_sides.specs.declared.ends.End.TheVariants.{Same, Lay, Own, Both}
-use Rattle.folder_sides.specs.declared.taking.TakeError.{TakeError}
-use Rattle.folder_sides.specs.declared.taking.TakeError.TheVariants.{NotLaid, Memory}
+use Rattle.folder_sides.specs.declared.ends.End.TheVariants.{Same, Both}
+use Rattle.folder_sides.specs.declared.taking.TakeError.TheVariants.{NotLaid}
 use Rattle.folder_sides.specs.Sides.{AreSides, is_same_node, is_same, end_alone, end_within, end_of, stays_in, comes_in, is_taken}
-use Rattle.folder_sides.specs.Merging.{stays, is_left, picked, merged, woven}
-use Rattle.folder_sides.specs.Steps.{removal, putting, kept_for, steps, laying}
+use Rattle.folder_sides.specs.Merging.{stays, merged}
+use Rattle.folder_sides.specs.Steps.{removal, putting, steps}
 use Rattle.folder_sides.specs.Taking.{is_left_out, standing, are_same_rows, taken}
-use Rattle.folder_sides.specs.Laws.{IsLogged, TakesAreOfWhatWasLaid, TakenIsTheFolder, TakesSpareOthers, OwnIsTaken, LayBehindTakeIsIdle, TakeBehindLayIsIdle, behind_lay}
+use Rattle.folder_sides.specs.Laws.{TakesAreOfWhatWasLaid, TakenIsTheFolder, TakesSpareOthers, OwnIsTaken, LayBehindTakeIsIdle, TakeBehindLayIsIdle, behind_lay}
 use Rattle.folder_sides.proofs.Lists.{node_filtered, node_woven, order_filter, order_woven, all_filter, all_woven, same_rows}
 use Rattle.folder_sides.proofs.EndCases.{same_node_is, own_node, is_same_itself, alone_same}
 use Rattle.folder_sides.proofs.Below.{begins, within, folder_len}

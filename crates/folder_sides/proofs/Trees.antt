@@ -1,6 +1,6 @@
 -- Where no two changes meet, what is laid leaves the rows of a tree.
 use Rattle.std.proofs.Common.{◌≡◌, ◌⊎◌, inl, inr, Bool, true, false, not, ◌||◌, ◌&&◌, List, [], ◌∷◌, filter, Option, Some, None, is_some, cond, refl, sym, ap, ◌∙◌}
-use Rattle.std.proofs.Common.{subst, true≢false}
+use Rattle.std.proofs.Common.{true≢false}
 use Rattle.std.specs.List.{list_any, AllByRecursion}
 use Rattle.std.specs.Option.{option_or}
 use Rattle.byte_fields.proofs.Facts.{and_of, and_holds, or_true}
@@ -15,7 +15,7 @@ use Rattle.folder_sides.specs.declared.sides.Sides.{Sides}
 use Rattle.folder_sides.specs.declared.ends.End.{End}
 use Rattle.folder_sides.specs.declared.ends.End.TheVariants.{Same, Lay, Own, Both}
 use Rattle.folder_sides.specs.Sides.{AreSides, end_alone, end_of, is_below, is_own, is_lay, is_own_below, is_laid_below, stays_in, comes_in, HasNoConflict}
-use Rattle.folder_sides.specs.Merging.{stays, is_left, picked, merged, woven}
+use Rattle.folder_sides.specs.Merging.{stays, is_left, picked, merged}
 use Rattle.folder_sides.proofs.Lists.{any_more, any_there, node_filtered, node_woven, order_filter, order_woven, all_filter, all_woven}
 use Rattle.folder_sides.proofs.EndCases.{same_end, lay_end, own_end_of, not_both, same_by, alone_same}
 use Rattle.folder_sides.proofs.Below.{up_below, own_below}

@@ -1,5 +1,5 @@
 -- What holds of folders that are changed here and in a log.
-use Rattle.std.specs.Prelude.{◌≡◌, ◌⊎◌, ℕ, true, false, List, [], take, Some, None, Ok}
+use Rattle.std.specs.Prelude.{◌≡◌, ◌⊎◌, ℕ, true, false, List, [], take, None, Ok}
 use Rattle.file_paths.specs.Path.{FilePath}
 use Rattle.tree_values.specs.Tree.{Volume, version_at, node_at}
 use Rattle.tree_values.specs.Effects.{apply_all}
@@ -7,7 +7,7 @@ use Rattle.tree_values.specs.declared.node.Effect.{Effect}
 use Rattle.cmd_capture.specs.declared.job.JobRow.{JobRow}
 use Rattle.cmd_capture.specs.Rows.{AreJobRows, node_in}
 use Rattle.folder_sides.specs.declared.sides.Sides.{Sides}
-use Rattle.folder_sides.specs.declared.ends.End.TheVariants.{Same, Lay, Own, Both}
+use Rattle.folder_sides.specs.declared.ends.End.TheVariants.{Own}
 use Rattle.folder_sides.specs.Sides.{AreSides, end_of, conflicts, HasNoConflict}
 use Rattle.folder_sides.specs.Merging.{is_left, merged}
 use Rattle.folder_sides.specs.Steps.{steps, laying, node_behind}

@@ -1,6 +1,6 @@
 -- The steps by which a folder gets other rows. A content and whether it may be run are one step: a laying that stopped between the two would
 -- leave a file that is neither what was laid nor what is to be.
-use Rattle.std.specs.Prelude.{Bool, List, [], ◌∷◌, ◌++◌, reverse, Option, Some, None, if◌then◌else◌}
+use Rattle.std.specs.Prelude.{List, [], ◌∷◌, ◌++◌, reverse, Option, Some, None, if◌then◌else◌}
 use Rattle.std.specs.List.{filter_map}
 use Rattle.file_paths.specs.Path.{FilePath, is_same_path}
 use Rattle.tree_values.specs.declared.node.Node.{Node}

@@ -4,7 +4,6 @@ use Rattle.std.specs.List.{list_any}
 use Rattle.file_paths.specs.Refusals.{when, unless_refused}
 use Rattle.file_paths.specs.Path.{FilePath, is_same_path}
 use Rattle.tree_values.specs.declared.node.Effect.{Effect}
-use Rattle.tree_values.specs.declared.node.Node.{Node}
 use Rattle.cmd_capture.specs.declared.job.JobRow.{JobRow}
 use Rattle.work_area.specs.Jobs.{is_within}
 use Rattle.work_area.specs.Changes.{changes}

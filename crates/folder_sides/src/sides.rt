@@ -148,8 +148,8 @@ fn is_taken(sides: &Sides, path: &Path) -> bool
 /// What becomes of a path where nothing stands that has no row.
 fn end_within(sides: &Sides, path: &Path) -> End
     requires { AreSides sides.now }
-    ensures { result ≡ rules.end_within (rules.end_alone sides.now path.now) (rules.stays_in sides.now path.now) (rules.comes_in sides.now path.now)
-        (rows.node_in sides.now.here path.now) (rows.node_in sides.now.logged path.now) }
+    ensures { result ≡ rules.end_within (rules.end_alone sides.now path.now) (rules.stays_in sides.now path.now)
+        (rules.comes_in sides.now path.now) (rows.node_in sides.now.here path.now) (rows.node_in sides.now.logged path.now) }
 {
     match end_alone(sides, path) {
         End::Lay if stays_in(sides, path) => {

@@ -1,4 +1,4 @@
-use Rattle.std.proofs.Common.{◌++◌, not, sym}
+use Rattle.std.proofs.Common.{◌++◌, sym}
 use Rattle.folder_sides.specs.Merging.{is_left}
 use Rattle.folder_sides.proofs.Lists.{filter_more}
 use Rattle.folder_sides.proofs.merging.rows_left.Goals as goal

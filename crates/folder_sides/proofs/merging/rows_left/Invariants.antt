@@ -1,4 +1,4 @@
-use Rattle.std.specs.Prelude.{◌≡◌, not, filter, take}
+use Rattle.std.specs.Prelude.{◌≡◌, filter, take}
 use Rattle.folder_sides.specs.Merging.{is_left}
 use Rattle.folder_sides.proofs.merging.rows_left.Given as goal
 

@@ -1,4 +1,4 @@
-use Rattle.std.proofs.Common.{◌++◌, not, sym}
+use Rattle.std.proofs.Common.{◌++◌, sym}
 use Rattle.folder_sides.specs.Taking.{is_left_out}
 use Rattle.folder_sides.proofs.Lists.{filter_more}
 use Rattle.folder_sides.proofs.taking.rows_left_out.Goals as goal

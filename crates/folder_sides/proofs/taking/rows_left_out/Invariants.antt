@@ -1,4 +1,4 @@
-use Rattle.std.specs.Prelude.{◌≡◌, not, filter, take}
+use Rattle.std.specs.Prelude.{◌≡◌, filter, take}
 use Rattle.folder_sides.specs.Taking.{is_left_out}
 use Rattle.folder_sides.proofs.taking.rows_left_out.Given as goal
 
