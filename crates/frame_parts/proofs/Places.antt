@@ -34,17 +34,17 @@ none_at client fronts i past passed =
 
 pub is_of_parts : (part : Part) (front : Front) → is_of part front ≡ true
     → (front.client ≡ part.client) × (front.print ≡ part.print) × (front.size ≡ part.size)
-is_of_parts part front yes =
-    let first = and_parts _ _ yes in
+is_of_parts part front holds =
+    let first = and_parts _ _ holds in
     let second = and_parts _ _ first.1 in
     (eqb-true _ _ first.0, (bytes_eq-Decides front.print part.print).0 second.0, eqb-true _ _ second.1)
 
 pub there_here : (part : Part) (fronts : List Front) (place : ℕ) (front : Front) → front_of part.client fronts ≡ slice_get fronts place
     → place < length fronts → front ≡ get_or fronts place front → is_of part front ≡ true → there part fronts ≡ front.bytes.items
-there_here part fronts place front found within is yes =
-    ap (bytes_of part) (found ∙ slice_get_read fronts (length fronts) place front refl within is) ∙ rw yes refl
+there_here part fronts place front found within is holds =
+    ap (bytes_of part) (found ∙ slice_get_read fronts (length fronts) place front refl within is) ∙ rw holds refl
 
 pub there_else : (part : Part) (fronts : List Front) (place : ℕ) (front : Front) → front_of part.client fronts ≡ slice_get fronts place
     → place < length fronts → front ≡ get_or fronts place front → is_of part front ≡ false → there part fronts ≡ []
-there_else part fronts place front found within is no =
-    ap (bytes_of part) (found ∙ slice_get_read fronts (length fronts) place front refl within is) ∙ rw no refl
+there_else part fronts place front found within is fails =
+    ap (bytes_of part) (found ∙ slice_get_read fronts (length fronts) place front refl within is) ∙ rw fails refl

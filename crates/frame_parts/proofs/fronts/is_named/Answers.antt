@@ -1,4 +1,5 @@
-use Rattle.std.proofs.Common.{arith, gets, sym, ◌∙◌}
+use Rattle.std.proofs.Common.{arith, sym, ◌∙◌}
+use Rattle.std.proofs.lemmas.Grind.{gets}
 use Rattle.std.proofs.lemmas.Bool.Decides.{Decides-eqb}
 use Rattle.std.proofs.lemmas.Slice.Eq.{slice_eq-Decides}
 use Rattle.frame_parts.proofs.fronts.is_named.Goals as goal
