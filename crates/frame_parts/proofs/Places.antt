@@ -30,7 +30,7 @@ pub none_at : (client : ℕ) (fronts : List Front) (i : ℕ) → length fronts �
     → front_of client (drop i fronts) ≡ front_of client fronts → front_of client fronts ≡ slice_get fronts i
 none_at client fronts i past passed =
     sym passed ∙ ap (front_of client) (drop_all i fronts past)
-    ∙ elim (slice_get_cases fronts i).1 [ | inl in_list ↦ absurd (omega (arith, past, in_list.1)) | inr none ↦ sym none.1 ]
+    ∙ elim (slice_get_cases fronts i).1 [ inl in_list ↦ absurd (omega (arith, past, in_list.1)) | inr none ↦ sym none.1 ]
 
 pub is_of_parts : (part : Part) (front : Front) → is_of part front ≡ true
     → (front.client ≡ part.client) × (front.print ≡ part.print) × (front.size ≡ part.size)

@@ -11,7 +11,10 @@ pub puts_from : {E : Type 0} (most : ℕ) (part : Part) (piece : List ℕ) (now 
 puts_from most part piece now old new others count seen joined (Err e) at is joins stands rest settles = settles
 puts_from most part piece now old new others count seen joined (Ok put) at is joins stands rest settles =
     let before : take count joined ≡ there part old = ap (take count) joins ∙ take_at (there part old) piece count (sym is) in
-    inr (at, subst (λ (l : List Front). Settles most part (there part old) (there part old ++ piece) now l put new) rest
-      (subst (λ (n : ℕ). Settles most part (there part old) (there part old ++ piece) n others put new) stands
-      (subst (λ (l : List ℕ). Settles most part (there part old) l seen others put new) joins
-      (subst (λ (l : List ℕ). Settles most part l joined seen others put new) before settles))))
+    inr (
+      at,
+      subst (λ (l : List Front). Settles most part (there part old) (there part old ++ piece) now l put new) rest
+          (subst (λ (n : ℕ). Settles most part (there part old) (there part old ++ piece) n others put new) stands
+          (subst (λ (l : List ℕ). Settles most part (there part old) l seen others put new) joins
+          (subst (λ (l : List ℕ). Settles most part l joined seen others put new) before settles))),
+    )

@@ -11,7 +11,9 @@ returns-then-is_of-clause-front c =
     let found = ap (front_of c.args.part.now.client) (sym c.deref.ensures.value) ∙ c.place_of-place.ensures.front
     ∙ ap (λ (l : List Front). slice_get l c.place_of-place.result) c.deref.ensures.value in
     record {
-      client = parts.0; print = parts.1; size = parts.2;
+      client = parts.0;
+      print = parts.1;
+      size = parts.2;
       bytes = sym (there_here c.args.part.now c.args.fronts.now.items c.place_of-place.result c.remove-front.result found
           (omega (arith, c.args.fronts.now.ok.0)) c.remove-front.ensures.value holds);
       seen = refl;
@@ -23,7 +25,9 @@ returns-clause-front c =
     let found = ap (front_of c.args.part.now.client) (sym c.deref.ensures.value) ∙ c.place_of-place.ensures.front
     ∙ ap (λ (l : List Front). slice_get l c.place_of-place.result) c.deref.ensures.value in
     record {
-      client = c.no_bytes-2.ensures.client; print = c.no_bytes-2.ensures.print; size = c.no_bytes-2.ensures.size;
+      client = c.no_bytes-2.ensures.client;
+      print = c.no_bytes-2.ensures.print;
+      size = c.no_bytes-2.ensures.size;
       bytes = c.no_bytes-2.ensures.bytes ∙ sym (there_else c.args.part.now c.args.fronts.now.items c.place_of-place.result c.remove-front.result found
           (omega (arith, c.args.fronts.now.ok.0)) c.remove-front.ensures.value fails);
       seen = c.no_bytes-2.ensures.seen;
