@@ -152,3 +152,13 @@ found_have bytes have are form is = record {
   count = subst (λ (h : Have). h.count < 2 ^ 32) (sym is) (four_below 7 bytes are);
   same = have_is bytes are form ∙ ap have_spelled (sym is);
 }
+
+-- the bytes are of no other answer
+pub same_have : (bytes : List ℕ) (have other : Have) → IsHave bytes have → IsHave bytes other → have ≡ other
+same_have bytes have other one two =
+    let same : have_spelled have ≡ have_spelled other = sym one.same ∙ two.same in
+    let client : have.client ≡ other.client = ap (λ (l : List ℕ). slice_index l 6) same in
+    let count : have.count ≡ other.count =
+    sym (four_again have.count one.count) ∙ ap (λ (l : List ℕ). from_be_bytes w32 (drop 7 l)) same ∙ four_again other.count two.count in
+    ap (λ (n : ℕ). record { client = n; count = have.count }) client
+    ∙ ap (λ (n : ℕ). record { client = other.client; count = n }) count

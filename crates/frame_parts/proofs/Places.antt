@@ -8,7 +8,7 @@ use Rattle.frame_parts.specs.declared.front.Front.{Front}
 use Rattle.frame_parts.specs.declared.part.Part.{Part}
 use Rattle.frame_parts.specs.Fronts.{front_of, without, is_of, bytes_of, there}
 
-first_front : (client : ℕ) (front : Front) (fronts : List Front) → front.client ≡ client → front_of client (front ∷ fronts) ≡ Some front
+pub first_front : (client : ℕ) (front : Front) (fronts : List Front) → front.client ≡ client → front_of client (front ∷ fronts) ≡ Some front
 first_front client front fronts same = rw (eq-eqb front.client client same) refl
 
 first_without : (client : ℕ) (front : Front) (fronts : List Front) → front.client ≡ client → without client (front ∷ fronts) ≡ fronts

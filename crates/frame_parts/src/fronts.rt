@@ -1,5 +1,6 @@
 // Fronts that parts come for.
-ghost use Rattle.std.specs.Prelude.{◌≡◌, ◌↔◌, ◌≤◌, ◌<◌, ◌+◌, [], length, remove, filter, take, nat_le, slice_get, Some, IsTrue, IfOk, OnOk, OnErr};
+ghost use Rattle.std.specs.Prelude.{◌≡◌, ◌↔◌, ◌≤◌, ◌<◌, ◌+◌, [], length, remove, filter, take, nat_le, slice_get, Some, if◌then◌else◌, IsTrue, IfOk, OnOk, OnErr};
+ghost use Rattle.frame_parts.specs.Limits.{most_keyed, most_unkeyed};
 ghost use Rattle.frame_parts.specs.Spelling.{Fits};
 ghost use Rattle.frame_parts.specs.Fronts.{fronts_in, most_in, front_of, without, is_of, bytes_of, there, IsNamed, IsFront, HasRoom, FitBehind, TakesIn, Settles, Puts};
 
@@ -21,6 +22,7 @@ impl Fronts {
     /// No front. With keys there may be more of them than without.
     pub fn new(alloc: Global, keyed: bool) -> Fronts
         ensures empty { fronts_in result ≡ [] }
+        ensures most { most_in result ≡ (if keyed then most_keyed else most_unkeyed) }
         ensures room { HasRoom (most_in result) (fronts_in result) }
     {
         Fronts {
