@@ -1,17 +1,15 @@
 -- Fronts of a frame whose parts come.
-use Rattle.std.proofs.Common.{◌≡◌, ◌≢◌, ◌≤◌, ◌<◌, ◌⊎◌, ℕ, ◌+◌, List, [], ◌∷◌, ◌++◌, length, take, drop, Option, None, Some, refl, sym, ap, ◌∙◌, arith, subst, inl, inr, length-take, length-append, take_all}
+use Rattle.std.proofs.Common.{◌≡◌, ◌≢◌, ◌≤◌, ◌<◌, ◌⊎◌, ℕ, ◌+◌, List, [], ◌∷◌, ◌++◌, length, take, drop, None, Some, refl, sym, ap, ◌∙◌, arith, subst, inl, inr, length-append, take_all}
 use Rattle.std.specs.List.{AllByRecursion}
 use Rattle.std.proofs.Math.Seq.{take-add}
 use Rattle.std.proofs.lemmas.Bool.{cases_eq}
 use Rattle.std.proofs.lemmas.List.Sums.{sum_by-take-le}
 use Rattle.frame_parts.specs.declared.front.Front.{Front}
 use Rattle.frame_parts.specs.declared.front.Put.{Put}
-use Rattle.frame_parts.specs.declared.front.Put.TheVariants.{Have, Whole}
 use Rattle.frame_parts.specs.declared.part.Part.{Part}
 use Rattle.frame_parts.specs.Limits.{most_bytes}
-use Rattle.frame_parts.specs.Fronts.{front_of, without, bytes_of, bytes_in, there, IsNamed, FitBehind, Keeps, Hands, IsAppended, IsHandedOn, IsDropped, Settles, Puts}
+use Rattle.frame_parts.specs.Fronts.{front_of, without, bytes_of, bytes_in, there, IsNamed, FitBehind, Keeps, Puts}
 use Rattle.frame_parts.specs.Coming.{Came, IsOf, IsPiece, IsOfFrame, HasFront, PutsAll}
-use Rattle.frame_parts.proofs.Places.{first_front}
 use Rattle.frame_parts.proofs.Kept.{passed_front, front_without, front_taken, length-without, bytes-without, there_same, there_first}
 
 -- a piece behind a front is a front
@@ -48,7 +46,7 @@ own_part most frame part piece now old new put has of stands (inr (at, inr (inl 
     subst (λ (l : List ℕ). l ≡ take (length l) frame) (sym (kept_first most part _ now _ new handed.3)) (has part of)
 own_part most frame part piece now old new put has of stands (inr (at, inr (inr dropped))) =
     absurd (dropped.1 (subst (IsNamed part)
-      (sym (whole_front frame (there part old ++ piece) part.size (joined_front frame (there part old) piece part.at (has part of) at stands) dropped.0 of.size)) of.named))
+    (sym (whole_front frame (there part old ++ piece) part.size (joined_front frame (there part old) piece part.at (has part of) at stands) dropped.0 of.size)) of.named))
 
 -- another client's front stays, or is let go
 kept_other : (most : ℕ) (part : Part) (bytes : List ℕ) (now : ℕ) (old new : List Front) (client : ℕ) → (client ≡ part.client → ⊥)

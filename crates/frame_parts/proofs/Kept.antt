@@ -1,5 +1,5 @@
 -- What stays of fronts.
-use Rattle.std.proofs.Common.{true, false, ◌≡◌, ◌≤◌, ◌<◌, ◌⊎◌, ℕ, zero, suc, ◌+◌, ◌==◌, ◌&&◌, List, [], ◌∷◌, ◌++◌, length, take, Option, None, Some, refl, sym, ap, ◌∙◌, arith, inl, inr, if◌then◌else◌}
+use Rattle.std.proofs.Common.{true, ◌≡◌, ◌≤◌, ◌⊎◌, ℕ, zero, suc, ◌+◌, ◌==◌, ◌&&◌, List, [], ◌∷◌, length, take, Option, None, Some, refl, sym, ap, ◌∙◌, arith, inl, inr, if◌then◌else◌}
 use Rattle.std.proofs.lemmas.Bool.{eq-eqb, ne_eqb, cases_eq}
 use Rattle.std.proofs.lemmas.Slice.Eq.{bytes_eq-Decides}
 use Rattle.std.proofs.lemmas.List.Sums.{sum_by-cons}
@@ -67,8 +67,13 @@ bytes-without client [] = omega arith
 bytes-without client (front ∷ fronts) =
     elim (cases_eq front.client client) [
       | inl same ↦ omega (arith, bytes_cons front fronts, ap bytes_in (taken_without client front fronts same))
-      | inr differ ↦ omega (arith, bytes-without client fronts, bytes_cons front fronts, bytes_cons front (without client fronts),
-          ap bytes_in (passed_without client front fronts differ))
+      | inr differ ↦ omega (
+        arith,
+        bytes-without client fronts,
+        bytes_cons front fronts,
+        bytes_cons front (without client fronts),
+        ap bytes_in (passed_without client front fronts differ),
+      )
     ]
 
 -- what is there is of the client, the print and the size, wherever the part begins

@@ -1,5 +1,5 @@
 -- Numbers of four bytes at a place.
-use Rattle.std.proofs.Common.{◌≡◌, ◌≤◌, ◌<◌, ℕ, ◌+◌, ◌^◌, ◌⊎◌, inl, inr, List, length, take, drop, get_or, refl, sym, ap, ◌∙◌, arith, subst, w32, length-take, length-drop, get_or-take}
+use Rattle.std.proofs.Common.{◌≡◌, ◌≤◌, ◌<◌, ℕ, ◌+◌, ◌^◌, inl, inr, List, length, take, drop, get_or, refl, sym, arith, subst, w32, length-take, length-drop, get_or-take}
 use Rattle.std.specs.Int.{to_be_bytes, from_be_bytes}
 use Rattle.std.proofs.lemmas.List.{get_or-drop, get_or_past}
 use Rattle.std.proofs.lemmas.Bool.{cases_lt}

@@ -1,11 +1,11 @@
 -- Parts that are read.
-use Rattle.std.proofs.Common.{◌≡◌, ◌≤◌, ◌<◌, ℕ, ◌+◌, ◌-◌, ◌^◌, List, [], ◌∷◌, ◌++◌, length, take, drop, slice_index, get_or, refl, sym, ap, ◌∙◌, arith, subst, w32, take_at, drop_at, drop-cons, drop-drop, take-append-drop, take_all, length-take, length-drop, length-append}
+use Rattle.std.proofs.Common.{◌≡◌, ◌≤◌, ◌<◌, ℕ, ◌+◌, ◌-◌, ◌^◌, List, [], ◌∷◌, ◌++◌, length, take, drop, slice_index, refl, sym, ap, ◌∙◌, arith, subst, w32, take_at, drop_at, drop-cons, drop-drop, take-append-drop, take_all, length-take, length-drop, length-append}
 use Rattle.std.specs.Int.{to_be_bytes, from_be_bytes}
 use Rattle.frame_parts.specs.declared.part.Part.{Part}
 use Rattle.frame_parts.specs.declared.have.Have.{Have}
 use Rattle.frame_parts.specs.Limits.{max_frame}
 use Rattle.frame_parts.specs.Spelling.{mark, part_spelled, have_spelled, part_in, piece_in, have_in, Fits, IsPart, HasPart, IsHave, HasHave}
-use Rattle.frame_parts.proofs.Numbers.{IsBytes, four_at, length-four, four_back, four_below, four_again}
+use Rattle.frame_parts.proofs.Numbers.{IsBytes, four_at, four_back, four_below, four_again}
 
 -- the bytes behind a place are some of them, and those behind
 split_at : (place count next : ℕ) (bytes : List ℕ) → next ≡ place + count → take count (drop place bytes) ++ drop next bytes ≡ drop place bytes

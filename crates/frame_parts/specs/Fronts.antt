@@ -1,7 +1,6 @@
 -- The fronts of frames that come in parts.
 use Rattle.std.specs.Prelude.{◌≡◌, ◌≢◌, ◌⊎◌, ℕ, ◌+◌, ◌≤◌, ◌<◌, ◌==◌, ◌&&◌, Bool, List, [], ◌∷◌, ◌++◌, length, take, sum_by, slice_get, Option, None, Some, if◌then◌else◌}
 use Rattle.std.specs.Str.{bytes_eq}
-use Rattle.std.specs.declared.vec.Vec.{Vec}
 use Rattle.sha2.specs.Sha256.{sha256}
 use Rattle.frame_parts.specs.declared.part.Part.{Part}
 use Rattle.frame_parts.specs.declared.front.Front.{Front}

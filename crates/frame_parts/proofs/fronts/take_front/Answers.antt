@@ -1,4 +1,4 @@
-use Rattle.std.proofs.Common.{arith, refl, sym, ap, ◌∙◌, ◌<◌, List, length, slice_get}
+use Rattle.std.proofs.Common.{arith, refl, sym, ap, ◌∙◌, List, slice_get}
 use Rattle.frame_parts.specs.declared.front.Front.{Front}
 use Rattle.frame_parts.specs.Fronts.{front_of}
 use Rattle.frame_parts.proofs.Places.{is_of_parts, there_here, there_else}
