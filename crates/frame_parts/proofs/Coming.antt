@@ -1,16 +1,17 @@
 -- Fronts of a frame whose parts come.
-use Rattle.std.proofs.Common.{◌≡◌, ◌≢◌, ◌≤◌, ◌<◌, ◌⊎◌, ℕ, ◌+◌, List, [], ◌∷◌, ◌++◌, length, take, drop, None, Some, refl, sym, ap, ◌∙◌, arith, subst, inl, inr, length-append, take_all}
+use Rattle.std.proofs.Common.{◌≡◌, ◌≢◌, ◌≤◌, ◌<◌, ◌⊎◌, ℕ, ◌+◌, List, [], ◌∷◌, ◌++◌, length, take, drop, None, Some, refl, sym, ap, ◌∙◌, arith, subst, inl, inr, Bool, not, filter, nat_le, length-take, length-append, take_all}
 use Rattle.std.specs.List.{AllByRecursion}
 use Rattle.std.proofs.Math.Seq.{take-add}
 use Rattle.std.proofs.lemmas.Bool.{cases_eq}
 use Rattle.std.proofs.lemmas.List.Sums.{sum_by-take-le}
+use Rattle.std.proofs.lemmas.List.Filters.{sum_by-filter_both, length-filter_both}
 use Rattle.frame_parts.specs.declared.front.Front.{Front}
 use Rattle.frame_parts.specs.declared.front.Put.{Put}
 use Rattle.frame_parts.specs.declared.part.Part.{Part}
 use Rattle.frame_parts.specs.Limits.{most_bytes}
-use Rattle.frame_parts.specs.Fronts.{front_of, without, bytes_of, bytes_in, there, IsNamed, FitBehind, Keeps, Puts}
+use Rattle.frame_parts.specs.Fronts.{front_of, without, bytes_of, bytes_in, there, IsNamed, FitBehind, HasRoom, Keeps, Puts}
 use Rattle.frame_parts.specs.Coming.{Came, IsOf, IsPiece, IsOfFrame, HasFront, PutsAll}
-use Rattle.frame_parts.proofs.Kept.{passed_front, front_without, front_taken, length-without, bytes-without, there_same, there_first}
+use Rattle.frame_parts.proofs.Kept.{passed_front, front_without, front_taken, length-without, bytes_cons, bytes-without, there_same, there_first}
 
 -- a piece behind a front is a front
 joined_front : (frame before piece : List ℕ) (at : ℕ) → before ≡ take (length before) frame → at ≡ length before
@@ -126,3 +127,34 @@ others_kept most part piece now old new put other differs few room (inr (at, inr
     kept_room most part _ now old new other differs few (omega (arith, room, handed.0, length-append (there part old) piece)) handed.3
 others_kept most part piece now old new put other differs few room (inr (at, inr (inr dropped))) =
     ap (front_of other) dropped.3 ∙ front_without other part.client old differs
+
+kept_has_room : (most : ℕ) (part : Part) (bytes : List ℕ) (now : ℕ) (others new : List Front) → Keeps most part bytes now others new
+    → HasRoom most new
+kept_has_room most part bytes now others new keeps = subst (HasRoom most) (sym keeps.2.first) (record {
+  few = omega (arith, keeps.2.fit.few, length-take keeps.2.kept others);
+  bytes = omega (arith, keeps.2.fit.bytes, bytes_cons keeps.0 (take keeps.2.kept others));
+})
+
+pub room_kept : (most : ℕ) (part : Part) (piece : List ℕ) (now : ℕ) (old new : List Front) (put : Put) → HasRoom most old
+    → Puts most part piece now old put new → HasRoom most new
+room_kept most part piece now old new put room (inl same) = subst (HasRoom most) (sym same.2) room
+room_kept most part piece now old new put room (inr (at, inl appended)) = kept_has_room most part _ now _ new appended.2
+room_kept most part piece now old new put room (inr (at, inr (inl handed))) = kept_has_room most part _ now _ new handed.3
+room_kept most part piece now old new put room (inr (at, inr (inr dropped))) = subst (HasRoom most) (sym dropped.3) (record {
+  few = omega (arith, room.few, length-without part.client old);
+  bytes = omega (arith, room.bytes, bytes-without part.client old);
+})
+
+pub later_have_room : (most since : ℕ) (fronts : List Front) → HasRoom most fronts
+    → HasRoom most (filter (λ front. nat_le since front.seen) fronts)
+later_have_room most since fronts room =
+    let later : Front → Bool = λ front. nat_le since front.seen in
+    record {
+      few = omega (arith, room.few, length-filter_both later (λ (front : Front). not (later front)) (λ (front : Front). refl) fronts);
+      bytes = omega (
+        arith,
+        room.bytes,
+        sum_by-filter_both later (λ (front : Front). not (later front)) (λ (front : Front). refl)
+            (λ (front : Front). length front.bytes.items) fronts,
+      );
+    }

@@ -59,7 +59,7 @@ length-without client (front ∷ fronts) =
       | inr differ ↦ omega (arith, length-without client fronts, ap (λ (l : List Front). length l) (passed_without client front fronts differ))
     ]
 
-bytes_cons : (front : Front) (fronts : List Front) → bytes_in (front ∷ fronts) ≡ length front.bytes.items + bytes_in fronts
+pub bytes_cons : (front : Front) (fronts : List Front) → bytes_in (front ∷ fronts) ≡ length front.bytes.items + bytes_in fronts
 bytes_cons front fronts = sum_by-cons (λ (f : Front). length f.bytes.items) front fronts
 
 pub bytes-without : (client : ℕ) (fronts : List Front) → bytes_in (without client fronts) ≤ bytes_in fronts

@@ -101,8 +101,8 @@ abbrev pub Settles : ℕ → Part → List ℕ → List ℕ → ℕ → List Fro
 Settles most part before joined now others put new = IsAppended most part joined now others put new
     ⊎ (IsHandedOn most part before joined now others put new ⊎ IsDropped part joined others put new)
 
--- A part with this piece comes when the clock stands so. Where it does not begin behind what is there of its frame nothing changes, and what
--- is there is told; where it does, its piece stands behind that.
+-- A part with this piece comes when the clock stands so. Where it does not begin behind what is there of its frame nothing changes, and
+-- what is there is told; where it does, its piece stands behind that.
 abbrev pub Puts : ℕ → Part → List ℕ → ℕ → List Front → Put → List Front → Type 0
 Puts most part piece now old put new =
     ((part.at ≢ length (there part old)) × (put ≡ Have (length (there part old))) × (new ≡ old))

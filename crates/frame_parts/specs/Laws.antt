@@ -1,5 +1,5 @@
 -- What holds of parts and of the fronts that they come for.
-use Rattle.std.specs.Prelude.{◌≡◌, ◌≢◌, ℕ, ◌+◌, ◌≤◌, ◌<◌, List, length}
+use Rattle.std.specs.Prelude.{◌≡◌, ◌≢◌, ℕ, ◌+◌, ◌≤◌, ◌<◌, List, length, filter, nat_le}
 use Rattle.std.specs.List.{AllByRecursion}
 use Rattle.frame_parts.specs.declared.part.Part.{Part}
 use Rattle.frame_parts.specs.declared.have.Have.{Have}
@@ -9,9 +9,10 @@ use Rattle.frame_parts.specs.declared.part.TheConstants.{MAX_FRAME, PART_BYTES}
 use Rattle.frame_parts.specs.declared.have.TheConstants.{HAVE_BYTES}
 use Rattle.frame_parts.specs.declared.fronts.TheConstants.{MOST_UNKEYED, MOST_KEYED, MOST_BYTES}
 use Rattle.frame_parts.specs.declared.sizes.TheConstants.{FIRST_SIZE, LEAST_SIZE, MOST_SIZE}
-use Rattle.frame_parts.specs.Limits.{max_frame, part_bytes, have_bytes, most_unkeyed, most_keyed, most_bytes, first_size, least_size, most_size}
+use Rattle.frame_parts.specs.Limits.{max_frame, part_bytes, have_bytes, most_unkeyed, most_keyed, most_bytes}
+use Rattle.frame_parts.specs.Limits.{first_size, least_size, most_size}
 use Rattle.frame_parts.specs.Spelling.{IsPart, IsHave}
-use Rattle.frame_parts.specs.Fronts.{front_of, bytes_in, there, Hands, Puts}
+use Rattle.frame_parts.specs.Fronts.{front_of, bytes_in, there, HasRoom, Hands, Puts}
 use Rattle.frame_parts.specs.Coming.{Came, IsOf, IsPiece, IsOfFrame, HasFront, PutsAll}
 
 -- the limits of the code are those of the definitions
@@ -43,7 +44,8 @@ FrontsAreKept = (most : ℕ) (frame : List ℕ) (came : List Came) (old new : Li
 -- what a part of the frame hands on is the frame
 abbrev pub FrameIsHandedOn : Type 0
 FrameIsHandedOn = (most : ℕ) (frame : List ℕ) (part : Part) (piece : List ℕ) (now : ℕ) (old new : List Front) (put : Put) (whole : List ℕ)
-    → HasFront frame old → IsOf frame part → IsPiece frame part piece → Puts most part piece now old put new → Hands put whole → whole ≡ frame
+    → HasFront frame old → IsOf frame part → IsPiece frame part piece → Puts most part piece now old put new
+    → Hands put whole → whole ≡ frame
 
 -- and the part hands it on that begins behind what is there and ends where the frame does
 abbrev pub LastPartHandsOn : Type 0
@@ -56,3 +58,13 @@ abbrev pub OthersStay : Type 0
 OthersStay = (most : ℕ) (part : Part) (piece : List ℕ) (now : ℕ) (old new : List Front) (put : Put) (other : ℕ)
     → other ≢ part.client → length old < most → part.size + bytes_in old ≤ most_bytes → Puts most part piece now old put new
     → front_of other new ≡ front_of other old
+
+-- there is room for what is kept, whatever part comes
+abbrev pub RoomIsKept : Type 0
+RoomIsKept = (most : ℕ) (part : Part) (piece : List ℕ) (now : ℕ) (old new : List Front) (put : Put) → HasRoom most old
+    → Puts most part piece now old put new → HasRoom most new
+
+-- and where those are let go for which no part came
+abbrev pub LaterHaveRoom : Type 0
+LaterHaveRoom = (most since : ℕ) (fronts : List Front) → HasRoom most fronts
+    → HasRoom most (filter (λ front. nat_le since front.seen) fronts)

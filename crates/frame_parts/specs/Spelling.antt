@@ -9,8 +9,8 @@ use Rattle.frame_parts.specs.Limits.{max_frame, part_bytes}
 abbrev pub mark : ℕ
 mark = 0xe6
 
--- the frame of a part: how many bytes follow, the mark, 1, the client, the print and the size of the whole frame, how many bytes of it stand
--- before the piece, and the piece
+-- the frame of a part: how many bytes follow, the mark, 1, the client, the print and the size of the whole frame, how many bytes of it
+-- stand before the piece, and the piece
 abbrev pub part_spelled : Part → List ℕ → List ℕ
 part_spelled part piece =
     to_be_bytes w32 (43 + length piece) ++ ((mark ∷ 1 ∷ part.client ∷ [])

@@ -1,7 +1,7 @@
 // What is there of a frame, as bytes: the answer to a part.
 ghost use Rattle.std.specs.Prelude.{◌≡◌, ◌↔◌, IsTrue, IfSome, IfNone};
 ghost use Rattle.frame_parts.specs.declared.have.Have.{Have};
-ghost use Rattle.frame_parts.specs.Spelling.{have_spelled, have_in, HasHave, IsHave};
+ghost use Rattle.frame_parts.specs.Spelling.{have_spelled, HasHave, IsHave};
 
 use crate::part::{MARK, number_at};
 

@@ -1,6 +1,7 @@
 //! What holds of parts and of what is kept of them: functions that do nothing, whose contracts are laws.
 
-ghost use Rattle.frame_parts.specs.Laws.{LimitsAgree, BytesAreOnePart, BytesAreOneAnswer, FrontsAreKept, FrameIsHandedOn, LastPartHandsOn, OthersStay};
+ghost use Rattle.frame_parts.specs.Laws.{LimitsAgree, BytesAreOnePart, BytesAreOneAnswer, FrontsAreKept};
+ghost use Rattle.frame_parts.specs.Laws.{FrameIsHandedOn, LastPartHandsOn, OthersStay, RoomIsKept, LaterHaveRoom};
 
 /// States that the limits of the code are those of the definitions.
 pub fn limits_agree()
@@ -29,4 +30,10 @@ pub fn whole_frames_are_handed_on()
 /// States that a part leaves the front of another client as it is, where there is room for both.
 pub fn others_stay()
     ensures { OthersStay }
+{}
+
+/// States that there is room for the fronts that are kept, whatever part comes, and where `drop_older` lets some go.
+pub fn room_is_kept()
+    ensures puts { RoomIsKept }
+    ensures later { LaterHaveRoom }
 {}

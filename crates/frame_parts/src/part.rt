@@ -2,7 +2,7 @@
 ghost use Rattle.std.specs.Prelude.{◌≡◌, ◌↔◌, ◌≤◌, ◌+◌, ℕ, List, length, take, drop, IsTrue, IfOk, IfSome, IfNone};
 ghost use Rattle.std.specs.Int.{w32, from_be_bytes};
 ghost use Rattle.frame_parts.specs.declared.part.Part.{Part};
-ghost use Rattle.frame_parts.specs.Spelling.{part_spelled, part_in, piece_in, Fits, IsPart, HasPart};
+ghost use Rattle.frame_parts.specs.Spelling.{part_in, Fits, IsPart, HasPart};
 
 use std::alloc::{AllocError, Global};
 
