@@ -69,7 +69,7 @@ other_front most part piece now old new put client differs (inr (at, inr (inl ha
 other_front most part piece now old new put client differs (inr (at, inr (inr dropped))) =
     inl (ap (front_of client) dropped.3 ∙ front_without client part.client old differs)
 
-other_part : (frame : List ℕ) (part : Part) (old new : List Front) → HasFront frame old → IsOf frame part
+pub other_part : (frame : List ℕ) (part : Part) (old new : List Front) → HasFront frame old → IsOf frame part
     → (front_of part.client new ≡ front_of part.client old) ⊎ (front_of part.client new ≡ None) → there part new ≡ take (length (there part new)) frame
 other_part frame part old new has of (inl same) =
     subst (λ (l : List ℕ). l ≡ take (length l) frame) (sym (ap (bytes_of part) same)) (has part of)

@@ -14,11 +14,11 @@ pub passed_front : (client : ℕ) (front : Front) (fronts : List Front) → (fro
     → front_of client (front ∷ fronts) ≡ front_of client fronts
 passed_front client front fronts differs = rw (ne_eqb front.client client differs) refl
 
-passed_without : (client : ℕ) (front : Front) (fronts : List Front) → (front.client ≡ client → ⊥)
+pub passed_without : (client : ℕ) (front : Front) (fronts : List Front) → (front.client ≡ client → ⊥)
     → without client (front ∷ fronts) ≡ front ∷ without client fronts
 passed_without client front fronts differs = rw (ne_eqb front.client client differs) refl
 
-taken_without : (client : ℕ) (front : Front) (fronts : List Front) → front.client ≡ client → without client (front ∷ fronts) ≡ fronts
+pub taken_without : (client : ℕ) (front : Front) (fronts : List Front) → front.client ≡ client → without client (front ∷ fronts) ≡ fronts
 taken_without client front fronts same = rw (eq-eqb front.client client same) refl
 
 -- without another client's front, a client's is there as before

@@ -4,3 +4,4 @@ pub mod Places
 pub mod Putting
 pub mod Kept
 pub mod Coming
+pub mod Each

@@ -26,6 +26,11 @@ abbrev pub without : ℕ → List Front → List Front
 without client [] = []
 without client (front ∷ fronts) = if front.client == client then fronts else front ∷ without client fronts
 
+-- each client has one front at most
+abbrev pub AreOne : List Front → Type 0
+AreOne [] = Unit {0}
+AreOne (front ∷ fronts) = (front_of front.client fronts ≡ None) × AreOne fronts
+
 -- a front is of the frame that the part is of
 abbrev pub is_of : Part → Front → Bool
 is_of part front = front.client == part.client && (bytes_eq front.print part.print && front.size == part.size)

@@ -12,7 +12,7 @@ use Rattle.frame_parts.specs.declared.sizes.TheConstants.{FIRST_SIZE, LEAST_SIZE
 use Rattle.frame_parts.specs.Limits.{max_frame, part_bytes, have_bytes, most_unkeyed, most_keyed, most_bytes}
 use Rattle.frame_parts.specs.Limits.{first_size, least_size, most_size}
 use Rattle.frame_parts.specs.Spelling.{IsPart, IsHave}
-use Rattle.frame_parts.specs.Fronts.{front_of, bytes_in, there, HasRoom, Hands, Puts}
+use Rattle.frame_parts.specs.Fronts.{front_of, bytes_in, there, AreOne, HasRoom, Hands, Puts}
 use Rattle.frame_parts.specs.Coming.{Came, IsOf, IsPiece, IsOfFrame, HasFront, PutsAll}
 
 -- the limits of the code are those of the definitions
@@ -41,6 +41,20 @@ abbrev pub FrontsAreKept : Type 0
 FrontsAreKept = (most : ℕ) (frame : List ℕ) (came : List Came) (old new : List Front) → HasFront frame old
     → AllByRecursion (IsOfFrame frame) came → PutsAll most came old new → HasFront frame new
 
+-- it stays one where those are let go for which no part came
+abbrev pub LaterAreFronts : Type 0
+LaterAreFronts = (frame : List ℕ) (since : ℕ) (fronts : List Front) → AreOne fronts → HasFront frame fronts
+    → HasFront frame (filter (λ front. nat_le since front.seen) fronts)
+
+-- a client has one front at most, whatever part comes
+abbrev pub OneIsKept : Type 0
+OneIsKept = (most : ℕ) (part : Part) (piece : List ℕ) (now : ℕ) (old new : List Front) (put : Put) → AreOne old
+    → Puts most part piece now old put new → AreOne new
+
+-- nor where those are let go for which no part came
+abbrev pub LaterAreOne : Type 0
+LaterAreOne = (since : ℕ) (fronts : List Front) → AreOne fronts → AreOne (filter (λ front. nat_le since front.seen) fronts)
+
 -- what a part of the frame hands on is the frame
 abbrev pub FrameIsHandedOn : Type 0
 FrameIsHandedOn = (most : ℕ) (frame : List ℕ) (part : Part) (piece : List ℕ) (now : ℕ) (old new : List Front) (put : Put) (whole : List ℕ)
@@ -64,7 +78,7 @@ abbrev pub RoomIsKept : Type 0
 RoomIsKept = (most : ℕ) (part : Part) (piece : List ℕ) (now : ℕ) (old new : List Front) (put : Put) → HasRoom most old
     → Puts most part piece now old put new → HasRoom most new
 
--- and where those are let go for which no part came
+-- nor where those are let go for which no part came
 abbrev pub LaterHaveRoom : Type 0
 LaterHaveRoom = (most since : ℕ) (fronts : List Front) → HasRoom most fronts
     → HasRoom most (filter (λ front. nat_le since front.seen) fronts)

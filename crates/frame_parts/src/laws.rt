@@ -1,6 +1,6 @@
 //! What holds of parts and of what is kept of them: functions that do nothing, whose contracts are laws.
 
-ghost use Rattle.frame_parts.specs.Laws.{LimitsAgree, BytesAreOnePart, BytesAreOneAnswer, FrontsAreKept};
+ghost use Rattle.frame_parts.specs.Laws.{LimitsAgree, BytesAreOnePart, BytesAreOneAnswer, FrontsAreKept, LaterAreFronts, OneIsKept, LaterAreOne};
 ghost use Rattle.frame_parts.specs.Laws.{FrameIsHandedOn, LastPartHandsOn, OthersStay, RoomIsKept, LaterHaveRoom};
 
 /// States that the limits of the code are those of the definitions.
@@ -15,9 +15,10 @@ pub fn bytes_are_one_part()
 {}
 
 /// States that what is there of a frame is a front of it, perhaps of no bytes, whatever parts come, so long as those of its client are
-/// pieces of it.
+/// pieces of it, and where `drop_older` lets some go.
 pub fn fronts_are_kept()
-    ensures { FrontsAreKept }
+    ensures puts { FrontsAreKept }
+    ensures later { LaterAreFronts }
 {}
 
 /// States that then the parts of the frame hand on this frame and no other, and that the part does which ends where the frame does and
@@ -36,4 +37,10 @@ pub fn others_stay()
 pub fn room_is_kept()
     ensures puts { RoomIsKept }
     ensures later { LaterHaveRoom }
+{}
+
+/// States that a client has one front at most, whatever part comes, and where `drop_older` lets some go.
+pub fn a_client_has_one_front()
+    ensures puts { OneIsKept }
+    ensures later { LaterAreOne }
 {}
