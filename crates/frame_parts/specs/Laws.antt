@@ -51,7 +51,7 @@ abbrev pub OneIsKept : Type 0
 OneIsKept = (most : ℕ) (part : Part) (piece : List ℕ) (now : ℕ) (old new : List Front) (put : Put) → AreOne old
     → Puts most part piece now old put new → AreOne new
 
--- nor where those are let go for which no part came
+-- and so it has where those are let go for which no part came
 abbrev pub LaterAreOne : Type 0
 LaterAreOne = (since : ℕ) (fronts : List Front) → AreOne fronts → AreOne (filter (λ front. nat_le since front.seen) fronts)
 
@@ -78,7 +78,7 @@ abbrev pub RoomIsKept : Type 0
 RoomIsKept = (most : ℕ) (part : Part) (piece : List ℕ) (now : ℕ) (old new : List Front) (put : Put) → HasRoom most old
     → Puts most part piece now old put new → HasRoom most new
 
--- nor where those are let go for which no part came
+-- and so there is where those are let go for which no part came
 abbrev pub LaterHaveRoom : Type 0
 LaterHaveRoom = (most since : ℕ) (fronts : List Front) → HasRoom most fronts
     → HasRoom most (filter (λ front. nat_le since front.seen) fronts)
