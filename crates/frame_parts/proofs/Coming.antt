@@ -135,15 +135,19 @@ kept_has_room most part bytes now others new keeps = subst (HasRoom most) (sym k
   bytes = omega (arith, keeps.2.fit.bytes, bytes_cons keeps.0 (take keeps.2.kept others));
 })
 
+pub lost_have_room : (most client : ℕ) (fronts : List Front) → HasRoom most fronts → HasRoom most (without client fronts)
+lost_have_room most client fronts room = record {
+  few = omega (arith, room.few, length-without client fronts);
+  bytes = omega (arith, room.bytes, bytes-without client fronts);
+}
+
 pub room_kept : (most : ℕ) (part : Part) (piece : List ℕ) (now : ℕ) (old new : List Front) (put : Put) → HasRoom most old
     → Puts most part piece now old put new → HasRoom most new
 room_kept most part piece now old new put room (inl same) = subst (HasRoom most) (sym same.2) room
 room_kept most part piece now old new put room (inr (at, inl appended)) = kept_has_room most part _ now _ new appended.2
 room_kept most part piece now old new put room (inr (at, inr (inl handed))) = kept_has_room most part _ now _ new handed.3
-room_kept most part piece now old new put room (inr (at, inr (inr dropped))) = subst (HasRoom most) (sym dropped.3) (record {
-  few = omega (arith, room.few, length-without part.client old);
-  bytes = omega (arith, room.bytes, bytes-without part.client old);
-})
+room_kept most part piece now old new put room (inr (at, inr (inr dropped))) =
+    subst (HasRoom most) (sym dropped.3) (lost_have_room most part.client old room)
 
 pub later_have_room : (most since : ℕ) (fronts : List Front) → HasRoom most fronts
     → HasRoom most (filter (λ front. nat_le since front.seen) fronts)

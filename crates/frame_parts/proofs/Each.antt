@@ -27,7 +27,7 @@ none_without client (front ∷ fronts) one =
           ∙ passed_front client front (without client fronts) differ ∙ none_without client fronts one.1
     ]
 
-one_without : (client : ℕ) (fronts : List Front) → AreOne fronts → AreOne (without client fronts)
+pub one_without : (client : ℕ) (fronts : List Front) → AreOne fronts → AreOne (without client fronts)
 one_without client [] one = one
 one_without client (front ∷ fronts) one =
     elim (cases_eq front.client client) [
@@ -107,3 +107,11 @@ pub later_front : (frame : List ℕ) (since : ℕ) (fronts : List Front) → Are
 later_front frame since fronts one has part of =
     other_part frame part fronts (filter (λ front. nat_le since front.seen) fronts) has of
     (front_filtered (λ front. nat_le since front.seen) part.client fronts one)
+
+pub lost_front : (frame : List ℕ) (client : ℕ) (fronts : List Front) → AreOne fronts → HasFront frame fronts
+    → HasFront frame (without client fronts)
+lost_front frame client fronts one has part of =
+    other_part frame part fronts (without client fronts) has of (elim (cases_eq part.client client) [
+      | inl same ↦ inr (ap (λ (n : ℕ). front_of n (without client fronts)) same ∙ none_without client fronts one)
+      | inr differ ↦ inl (front_without part.client client fronts differ)
+    ])

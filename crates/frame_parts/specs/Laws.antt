@@ -12,7 +12,7 @@ use Rattle.frame_parts.specs.declared.sizes.TheConstants.{FIRST_SIZE, LEAST_SIZE
 use Rattle.frame_parts.specs.Limits.{max_frame, part_bytes, have_bytes, most_unkeyed, most_keyed, most_bytes}
 use Rattle.frame_parts.specs.Limits.{first_size, least_size, most_size}
 use Rattle.frame_parts.specs.Spelling.{IsPart, IsHave}
-use Rattle.frame_parts.specs.Fronts.{front_of, bytes_in, there, AreOne, HasRoom, Hands, Puts}
+use Rattle.frame_parts.specs.Fronts.{front_of, without, bytes_in, there, AreOne, HasRoom, Hands, Puts}
 use Rattle.frame_parts.specs.Coming.{Came, IsOf, IsPiece, IsOfFrame, HasFront, PutsAll}
 
 -- the limits of the code are those of the definitions
@@ -46,6 +46,11 @@ abbrev pub LaterAreFronts : Type 0
 LaterAreFronts = (frame : List ℕ) (since : ℕ) (fronts : List Front) → AreOne fronts → HasFront frame fronts
     → HasFront frame (filter (λ front. nat_le since front.seen) fronts)
 
+-- and where a client's is gone for want of memory
+abbrev pub OthersAreFronts : Type 0
+OthersAreFronts = (frame : List ℕ) (client : ℕ) (fronts : List Front) → AreOne fronts → HasFront frame fronts
+    → HasFront frame (without client fronts)
+
 -- a client has one front at most, whatever part comes
 abbrev pub OneIsKept : Type 0
 OneIsKept = (most : ℕ) (part : Part) (piece : List ℕ) (now : ℕ) (old new : List Front) (put : Put) → AreOne old
@@ -54,6 +59,10 @@ OneIsKept = (most : ℕ) (part : Part) (piece : List ℕ) (now : ℕ) (old new :
 -- and so it has where those are let go for which no part came
 abbrev pub LaterAreOne : Type 0
 LaterAreOne = (since : ℕ) (fronts : List Front) → AreOne fronts → AreOne (filter (λ front. nat_le since front.seen) fronts)
+
+-- and where a client's is gone
+abbrev pub OthersAreOne : Type 0
+OthersAreOne = (client : ℕ) (fronts : List Front) → AreOne fronts → AreOne (without client fronts)
 
 -- what a part of the frame hands on is the frame
 abbrev pub FrameIsHandedOn : Type 0
@@ -82,3 +91,7 @@ RoomIsKept = (most : ℕ) (part : Part) (piece : List ℕ) (now : ℕ) (old new 
 abbrev pub LaterHaveRoom : Type 0
 LaterHaveRoom = (most since : ℕ) (fronts : List Front) → HasRoom most fronts
     → HasRoom most (filter (λ front. nat_le since front.seen) fronts)
+
+-- and where a client's is gone
+abbrev pub OthersHaveRoom : Type 0
+OthersHaveRoom = (most client : ℕ) (fronts : List Front) → HasRoom most fronts → HasRoom most (without client fronts)
